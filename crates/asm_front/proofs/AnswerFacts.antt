@@ -1,5 +1,5 @@
 -- What an answer says beside its assembly: what was read, and which faults say that a file is too large.
-use Rattle.std.proofs.Common.{◌≡◌, ℕ, ◌+◌, ◌*◌, ◌<◌, ◌≤◌, Bool, true, false, IsTrue, List, [], drop, length, length-drop, Result, Ok, Err, refl, sym, ap, ◌∙◌, subst, arith}
+use Rattle.std.proofs.Common.{◌≡◌, ℕ, ◌+◌, ◌*◌, ◌<◌, ◌≤◌, Bool, true, false, IsTrue, List, [], drop, length, length-drop, Result, Ok, Err, refl, sym, ap, ◌∙◌, subst, string_bytes, arith}
 use Rattle.asm_base.specs.WholeFile.{most_bytes}
 use Rattle.asm_base.specs.declared.faults.Fault.{Fault}
 use Rattle.asm_base.specs.declared.notes.Noted.{Noted}
@@ -8,24 +8,26 @@ use Rattle.asm_lines.specs.declared.faults.LineCause.{LineCause}
 use Rattle.asm_lines.specs.declared.faults.LineCause.TheVariants as line
 use Rattle.macro_words.specs.declared.causes.MacroCause.{MacroCause}
 use Rattle.macro_words.specs.declared.causes.MacroCause.TheVariants as macros
-use Rattle.asm_macro.specs.Expanding.{TakesIncludes, TakesTooLarge}
+use Rattle.asm_macro.specs.Expanding.{HasExpansionCause, KeepsMissing, TakesIncludes, TakesTooLarge}
 use Rattle.asm_macro.specs.declared.faults.ExpandFault.{ExpandFault}
 use Rattle.asm_macro.specs.declared.faults.ExpandFault.TheVariants as expand
 use Rattle.asm_place.specs.Faults.{is_too_large, is_file_too_large}
 use Rattle.asm_place.specs.Sources.{fault_at}
 use Rattle.asm_place.specs.declared.place_faults.FaultAt.{FaultAt}
-use Rattle.asm_values.specs.State.{Placed}
-use Rattle.asm_front.specs.Ending.{Flags, finished}
+use Rattle.asm_functions.specs.Followed.{Followed}
+use Rattle.asm_front.specs.Ending.{Flags, followed_end}
 use Rattle.asm_front.specs.declared.ending.NotedObject.{NotedObject}
 use Rattle.asm_front.specs.Assembly.{assembled, faulty, macro_fault, shown_files, ended_by}
-use Rattle.asm_front.specs.Answering.{AnswersSmall, IsAnswered, IsAnswer, line_answer, TakesText}
-use Rattle.asm_front.specs.Outcome.{TakesSource}
+use Rattle.asm_front.specs.Answering.{AnswersSmall, AnswersSource, IsAnswered, IsAnswer, line_answer, TakesText}
+use Rattle.asm_front.specs.Synthesis.{Synthesis}
+use Rattle.asm_front.specs.Outcome.{HasAssemblyCause, KeepsCount, TakesSource, flags_of}
+use Rattle.asm_front.specs.declared.answers.Options.{Options}
 use Rattle.asm_front.specs.declared.answers.Assembled.{Assembled}
 use Rattle.asm_front.specs.declared.answers.AsmFault.{AsmFault}
 use Rattle.asm_front.specs.declared.answers.AsmFault.TheVariants.{Source, Read, NoMemory}
 use Rattle.asm_front.proofs.FaultLaws.{end_is_no_reading}
 
-module _ (flags : Flags) (name : List ℕ) (files : List (List ℕ)) (placed : Placed) where
+module _ (flags : Flags) (name : List ℕ) (files : List (List ℕ)) (placed : Followed) where
   -- an object comes only where expansion came to its end
   object_by : (answer : Result NotedObject FaultAt) (noted : NotedObject) (shown : List (List ℕ)) → ended_by (shown_files name files) answer ≡ assembled noted shown → shown ≡ shown_files name files
   object_by (Ok made) noted shown is = cc
@@ -33,7 +35,7 @@ module _ (flags : Flags) (name : List ℕ) (files : List (List ℕ)) (placed : P
 
   text_ended : (expanded : Result (Unit {0}) (ExpandFault FaultAt)) (made : Assembled) → IsAnswer flags name files placed expanded (Ok made)
       → (expanded ≡ Ok tt) × (made.files ≡ shown_files name files)
-  text_ended (Ok u) made so = (refl, object_by (finished flags.fatal_warnings placed.sections placed.table placed.procedures placed.notes) _ made.files so)
+  text_ended (Ok u) made so = (refl, object_by (followed_end flags placed) _ made.files so)
   text_ended (Err (expand.Lines cause)) made so = absurd cc
   text_ended (Err (expand.Expansion cause pos)) made so = absurd cc
   text_ended (Err (expand.Placing fault)) made so = absurd cc
@@ -56,7 +58,7 @@ module _ (flags : Flags) (name : List ℕ) (files : List (List ℕ)) (placed : P
       → IsAnswer flags name files placed expanded (Err (Source fault pos notes shown)) → TakesIncludes expanded files before now → 0 < length files
       → (before ≤ now) × (now ≤ before + (most_bytes + 1) * length shown)
   text_fault_taken (Ok u) fault pos notes shown before now so takes some =
-      let same = fault_by (finished flags.fatal_warnings placed.sections placed.table placed.procedures placed.notes) _ shown so in
+      let same = fault_by (followed_end flags placed) _ shown so in
       let count : length shown ≡ length (drop 1 files) + 1 = ap length same ∙ omega arith in
       (takes.0, omega (arith, takes.1, count))
   text_fault_taken (Err (expand.Lines cause)) fault pos notes shown before now so takes some = (omega (arith, takes), omega (arith, takes))
@@ -122,15 +124,15 @@ ended_fault shown (Err at) fault files is = cc
 same_fault : (at other : FaultAt) (shown files : List (List ℕ)) → faulty at shown ≡ faulty other files → other.fault ≡ at.fault
 same_fault at other shown files is = cc
 
-module _ (flags : Flags) (name : List ℕ) (files : List (List ℕ)) (placed : Placed) where
+module _ (flags : Flags) (name : List ℕ) (files : List (List ℕ)) (placed : Followed) where
   pub text_large : (expanded : Result (Unit {0}) (ExpandFault FaultAt)) (result : Result Assembled AsmFault) (before now : ℕ) → IsAnswer flags name files placed expanded result
       → AnswersSmall expanded result → TakesTooLarge expanded before now → TakesSource result before now
   text_large expanded (Ok made) before now so small takes = tt
   text_large expanded (Err Read) before now so small takes = tt
   text_large expanded (Err NoMemory) before now so small takes = tt
   text_large (Ok u) (Err (Source fault pos notes names)) before now so small takes =
-      never_large (is_file_too_large fault) (end_is_no_reading flags.fatal_warnings placed.sections placed.table placed.procedures placed.notes (fault_at fault pos notes)
-      (ended_fault (shown_files name files) (finished flags.fatal_warnings placed.sections placed.table placed.procedures placed.notes) (fault_at fault pos notes) names so))
+      never_large (is_file_too_large fault) (end_is_no_reading flags placed (fault_at fault pos notes)
+      (ended_fault (shown_files name files) (followed_end flags placed) (fault_at fault pos notes) names so))
   text_large (Err (expand.Lines (line.NulByte n))) (Err (Source fault pos notes names)) before now so small takes = never_large (is_file_too_large fault) (ap is_file_too_large (same_fault _ (fault_at fault pos notes) _ names so))
   text_large (Err (expand.Lines (line.UnclosedString n))) (Err (Source fault pos notes names)) before now so small takes = never_large (is_file_too_large fault) (ap is_file_too_large (same_fault _ (fault_at fault pos notes) _ names so))
   text_large (Err (expand.Lines (line.UnclosedComment n))) (Err (Source fault pos notes names)) before now so small takes = never_large (is_file_too_large fault) (ap is_file_too_large (same_fault _ (fault_at fault pos notes) _ names so))
@@ -141,10 +143,96 @@ module _ (flags : Flags) (name : List ℕ) (files : List (List ℕ)) (placed : P
   text_large (Err expand.Read) (Err (Source fault pos notes names)) before now so small takes = absurd cc
   text_large (Err expand.NoMemory) (Err (Source fault pos notes names)) before now so small takes = absurd cc
 
+-- THE SAME WITH WHAT SYNTHESIS COMES TO
+
+-- with one outcome of synthesis at least it is the answer
+some_answer : (options : Options) (files : List (List ℕ)) (f : Followed) (expanded : Result (Unit {0}) (ExpandFault FaultAt)) (result : Result Assembled AsmFault)
+    → AnswersSource options files f expanded result → (made : Synthesis) × IsAnswer (flags_of options made) (string_bytes options.file) files f expanded result
+some_answer options files f expanded (Ok answer) is = (is.0, is.2.answer)
+some_answer options files f expanded (Err (Source fault pos notes names)) is = (is.0, is.2.answer)
+some_answer options files f expanded (Err Read) is = (Ok [], (is (Ok [])).answer)
+some_answer options files f expanded (Err NoMemory) is = (Ok [], (is (Ok [])).answer)
+
+-- so many bytes were read
+pub source_taken : (options : Options) (files : List (List ℕ)) (f : Followed) (expanded : Result (Unit {0}) (ExpandFault FaultAt)) (result : Result Assembled AsmFault) (before now : ℕ)
+    → AnswersSource options files f expanded result → TakesIncludes expanded files before now → 0 < length files → TakesText result before now
+source_taken options files f expanded result before now is takes some =
+    let one = some_answer options files f expanded result is in
+    text_taken (flags_of options one.0) (string_bytes options.file) files f expanded result before now one.1 takes some
+
+-- and a file is called too large where more than the most was
+pub source_large : (options : Options) (files : List (List ℕ)) (f : Followed) (expanded : Result (Unit {0}) (ExpandFault FaultAt)) (result : Result Assembled AsmFault) (before now : ℕ)
+    → AnswersSource options files f expanded result → AnswersSmall expanded result → TakesTooLarge expanded before now → TakesSource result before now
+source_large options files f expanded result before now is small takes =
+    let one = some_answer options files f expanded result is in
+    text_large (flags_of options one.0) (string_bytes options.file) files f expanded result before now one.1 small takes
+
+cause_by : (flags : Flags) (name : List ℕ) (files : List (List ℕ)) (f : Followed) (expanded : Result (Unit {0}) (ExpandFault FaultAt)) (result : Result Assembled AsmFault) (before now : ℕ)
+    → IsAnswer flags name files f expanded result → HasExpansionCause expanded before now → HasAssemblyCause result before now
+cause_by flags name files f (Err expand.Read) result before now so cause = subst (λ r. HasAssemblyCause r before now) (sym so) cause
+cause_by flags name files f (Ok u) (Ok made) before now so cause = cause
+cause_by flags name files f (Ok u) (Err (Source fault pos notes names)) before now so cause = cause
+cause_by flags name files f (Ok u) (Err Read) before now so cause = absurd so
+cause_by flags name files f (Ok u) (Err NoMemory) before now so cause = cause
+cause_by flags name files f (Err (expand.Lines of)) (Ok made) before now so cause = cause
+cause_by flags name files f (Err (expand.Lines of)) (Err (Source fault pos notes names)) before now so cause = cause
+cause_by flags name files f (Err (expand.Lines of)) (Err Read) before now so cause = absurd so
+cause_by flags name files f (Err (expand.Lines of)) (Err NoMemory) before now so cause = cause
+cause_by flags name files f (Err (expand.Expansion of at)) (Ok made) before now so cause = cause
+cause_by flags name files f (Err (expand.Expansion of at)) (Err (Source fault pos notes names)) before now so cause = cause
+cause_by flags name files f (Err (expand.Expansion of at)) (Err Read) before now so cause = absurd so
+cause_by flags name files f (Err (expand.Expansion of at)) (Err NoMemory) before now so cause = cause
+cause_by flags name files f (Err (expand.Placing at)) (Ok made) before now so cause = cause
+cause_by flags name files f (Err (expand.Placing at)) (Err (Source fault pos notes names)) before now so cause = cause
+cause_by flags name files f (Err (expand.Placing at)) (Err Read) before now so cause = absurd so
+cause_by flags name files f (Err (expand.Placing at)) (Err NoMemory) before now so cause = cause
+cause_by flags name files f (Err expand.NoMemory) (Ok made) before now so cause = cause
+cause_by flags name files f (Err expand.NoMemory) (Err (Source fault pos notes names)) before now so cause = cause
+cause_by flags name files f (Err expand.NoMemory) (Err Read) before now so cause = absurd so
+cause_by flags name files f (Err expand.NoMemory) (Err NoMemory) before now so cause = cause
+
+-- the input failed where expansion found it so
+pub source_cause : (options : Options) (files : List (List ℕ)) (f : Followed) (expanded : Result (Unit {0}) (ExpandFault FaultAt)) (result : Result Assembled AsmFault) (before now : ℕ)
+    → AnswersSource options files f expanded result → HasExpansionCause expanded before now → HasAssemblyCause result before now
+source_cause options files f expanded result before now is cause =
+    let one = some_answer options files f expanded result is in
+    cause_by (flags_of options one.0) (string_bytes options.file) files f expanded result before now one.1 cause
+
+found_by : (flags : Flags) (name : List ℕ) (files : List (List ℕ)) (f : Followed) (expanded : Result (Unit {0}) (ExpandFault FaultAt)) (result : Result Assembled AsmFault) (before now : ℕ)
+    → IsAnswer flags name files f expanded result → KeepsMissing expanded before now → KeepsCount result before now
+found_by flags name files f (Err expand.Read) result before now so keeps = subst (λ r. KeepsCount r before now) (sym so) keeps
+found_by flags name files f (Ok u) (Ok made) before now so keeps = keeps
+found_by flags name files f (Ok u) (Err (Source fault pos notes names)) before now so keeps = keeps
+found_by flags name files f (Ok u) (Err Read) before now so keeps = tt
+found_by flags name files f (Ok u) (Err NoMemory) before now so keeps = keeps
+found_by flags name files f (Err (expand.Lines of)) (Ok made) before now so keeps = keeps
+found_by flags name files f (Err (expand.Lines of)) (Err (Source fault pos notes names)) before now so keeps = keeps
+found_by flags name files f (Err (expand.Lines of)) (Err Read) before now so keeps = tt
+found_by flags name files f (Err (expand.Lines of)) (Err NoMemory) before now so keeps = keeps
+found_by flags name files f (Err (expand.Expansion of at)) (Ok made) before now so keeps = keeps
+found_by flags name files f (Err (expand.Expansion of at)) (Err (Source fault pos notes names)) before now so keeps = keeps
+found_by flags name files f (Err (expand.Expansion of at)) (Err Read) before now so keeps = tt
+found_by flags name files f (Err (expand.Expansion of at)) (Err NoMemory) before now so keeps = keeps
+found_by flags name files f (Err (expand.Placing at)) (Ok made) before now so keeps = keeps
+found_by flags name files f (Err (expand.Placing at)) (Err (Source fault pos notes names)) before now so keeps = keeps
+found_by flags name files f (Err (expand.Placing at)) (Err Read) before now so keeps = tt
+found_by flags name files f (Err (expand.Placing at)) (Err NoMemory) before now so keeps = keeps
+found_by flags name files f (Err expand.NoMemory) (Ok made) before now so keeps = keeps
+found_by flags name files f (Err expand.NoMemory) (Err (Source fault pos notes names)) before now so keeps = keeps
+found_by flags name files f (Err expand.NoMemory) (Err Read) before now so keeps = tt
+found_by flags name files f (Err expand.NoMemory) (Err NoMemory) before now so keeps = keeps
+
+-- and the count of starts of what has no contents stays where expansion kept it
+pub source_found : (options : Options) (files : List (List ℕ)) (f : Followed) (expanded : Result (Unit {0}) (ExpandFault FaultAt)) (result : Result Assembled AsmFault) (before now : ℕ)
+    → AnswersSource options files f expanded result → KeepsMissing expanded before now → KeepsCount result before now
+source_found options files f expanded result before now is keeps =
+    let one = some_answer options files f expanded result is in
+    found_by (flags_of options one.0) (string_bytes options.file) files f expanded result before now one.1 keeps
+
 -- ANSWERS OF FAULTS
 
 -- a fault of the lines of the source
-pub lines_answered : (flags : Flags) (name shown : List ℕ) (files begun : List (List ℕ)) (placed : Placed) (expanded : Result (Unit {0}) (ExpandFault FaultAt)) (cause : LineCause) (at : FaultAt)
+pub lines_answered : (flags : Flags) (name shown : List ℕ) (files begun : List (List ℕ)) (placed : Followed) (expanded : Result (Unit {0}) (ExpandFault FaultAt)) (cause : LineCause) (at : FaultAt)
     (result : Result Assembled AsmFault) → expanded ≡ Err (expand.Lines cause) → at ≡ line_answer cause → shown ≡ name → begun ≡ []
     → IsAnswered (faulty at (shown_files shown begun)) result → IsAnswer flags name files placed expanded result
 lines_answered flags name shown files begun placed expanded cause at result is same named none so =

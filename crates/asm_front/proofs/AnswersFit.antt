@@ -10,10 +10,9 @@ use Rattle.asm_macro.specs.Expanding.{Comes, IsExpansion}
 use Rattle.asm_macro.specs.declared.faults.ExpandFault.{ExpandFault}
 use Rattle.asm_macro.specs.declared.faults.ExpandFault.TheVariants as expand
 use Rattle.asm_place.specs.declared.place_faults.FaultAt.{FaultAt}
-use Rattle.asm_values.specs.State.{Placed, nothing_placed}
-use Rattle.asm_front.specs.Ending.{Flags, framed}
-use Rattle.asm_front.specs.Knowing.{told_by}
-use Rattle.asm_front.specs.Assembly.{assembled, faulty, assembly_of, expansion_of, handed_of, main_file, placed_after}
+use Rattle.asm_functions.specs.Followed.{Followed}
+use Rattle.asm_front.specs.Ending.{Flags, framed, with_made}
+use Rattle.asm_front.specs.Assembly.{assembled, faulty, assembly_of, expansion_of, handed_of, main_file, placed_after, told_of, nothing_yet, SourceIsMade, FileIsMade, IsMade}
 use Rattle.asm_front.specs.Answering.{IsAnswer, IsAnswered}
 use Rattle.asm_front.specs.Fitting.{TablesFit, AnswerFits, StepFits, TextFits, ObjectIsReadable, FileIsReadable, SourceIsReadable}
 use Rattle.asm_front.specs.Outcome.{AssemblesFile, Assembles}
@@ -22,15 +21,16 @@ use Rattle.asm_front.specs.declared.answers.AsmFault.{AsmFault}
 use Rattle.asm_front.specs.declared.ending.NotedObject.{NotedObject}
 
 -- where the end came, what it placed fits
-at_end : (wanted : Step Placed FaultAt) (files : List (List ℕ)) (placed : Placed) → (wanted ≡ untold → ⊥) → Comes wanted (ended files placed) → TablesFit (framed placed) → StepFits wanted
-at_end wanted files placed never (inl is) fit = subst StepFits (sym is) fit
-at_end wanted files placed never (inr is) fit = absurd (never is)
+at_end : (flags : Flags) (wanted : Step Followed FaultAt) (files : List (List ℕ)) (placed : Followed) → (wanted ≡ untold → ⊥) → Comes wanted (ended files placed)
+    → TablesFit (framed (with_made flags.scfi placed.placed)) → StepFits flags wanted
+at_end flags wanted files placed never (inl is) fit = subst (StepFits flags) (sym is) fit
+at_end flags wanted files placed never (inr is) fit = absurd (never is)
 
 -- what a refused list comes to has no object
-of_answer : (flags : Flags) (name : List ℕ) (wanted : Step Placed FaultAt) (lines : Result (List StatementAt) LineCause) (files : List (List ℕ)) (placed : Placed)
+of_answer : (flags : Flags) (name : List ℕ) (wanted : Step Followed FaultAt) (lines : Result (List StatementAt) LineCause) (files : List (List ℕ)) (placed : Followed)
     (expanded : Result (Unit {0}) (ExpandFault FaultAt)) (made : Assembled) → (wanted ≡ untold → ⊥) → IsExpansion wanted lines expanded files placed
-    → IsAnswer flags name files placed expanded (Ok made) → AnswerFits expanded placed (Ok made) → StepFits wanted
-of_answer flags name wanted lines files placed (Ok u) made never came so fit = at_end wanted files placed never came fit
+    → IsAnswer flags name files placed expanded (Ok made) → AnswerFits flags expanded placed (Ok made) → StepFits flags wanted
+of_answer flags name wanted lines files placed (Ok u) made never came so fit = at_end flags wanted files placed never came fit
 of_answer flags name wanted lines files placed (Err (expand.Lines cause)) made never came so fit = absurd cc
 of_answer flags name wanted lines files placed (Err (expand.Expansion cause pos)) made never came so fit = absurd cc
 of_answer flags name wanted lines files placed (Err (expand.Placing fault)) made never came so fit = absurd cc
@@ -38,39 +38,39 @@ of_answer flags name wanted lines files placed (Err expand.Read) made never came
 of_answer flags name wanted lines files placed (Err expand.NoMemory) made never came so fit = absurd cc
 
 -- the numbers of a text whose list was placed from nothing on
-pub text_fits : ((no_warn : Bool) (contents : Contents) (name source : List ℕ) → expansion_of no_warn (Some contents) name source ≡ untold → ⊥)
-    → (flags : Flags) (contents : Option Contents) (name text : List ℕ) (begun files : List (List ℕ)) (start placed : Placed) (expanded : Result (Unit {0}) (ExpandFault FaultAt))
-    (result : Result Assembled AsmFault) → begun ≡ name ∷ [] → start ≡ nothing_placed flags.no_warn
-    → IsExpansion (expansion placed_after told_by contents begun start (statements_of main_file text)) (statements_of main_file text) expanded files placed
-    → IsAnswer flags name files placed expanded result → AnswerFits expanded placed result → TextFits flags contents name text result
+pub text_fits : ((flags : Flags) (contents : Contents) (name source : List ℕ) → expansion_of flags (Some contents) name source ≡ untold → ⊥)
+    → (flags : Flags) (contents : Option Contents) (name text : List ℕ) (begun files : List (List ℕ)) (start placed : Followed) (expanded : Result (Unit {0}) (ExpandFault FaultAt))
+    (result : Result Assembled AsmFault) → begun ≡ name ∷ [] → start ≡ nothing_yet flags
+    → IsExpansion (expansion placed_after told_of contents begun start (statements_of main_file text)) (statements_of main_file text) expanded files placed
+    → IsAnswer flags name files placed expanded result → AnswerFits flags expanded placed result → TextFits flags contents name text result
 unfolding expansion_of
 text_fits never flags None name text begun files start placed expanded result named empty came so fit = tt
 text_fits never flags (Some contents) name text begun files start placed expanded (Err fault) named empty came so fit = tt
 text_fits never flags (Some contents) name text begun files start placed expanded (Ok made) named empty came so fit =
-    let wanted = expansion placed_after told_by (Some contents) (name ∷ []) (nothing_placed flags.no_warn) (statements_of main_file text) in
-    of_answer flags name wanted (statements_of main_file text) files placed expanded made (never flags.no_warn contents name text)
-    (subst (λ (first : Placed). IsExpansion (expansion placed_after told_by (Some contents) (name ∷ []) first (statements_of main_file text)) (statements_of main_file text) expanded files placed) empty
-    (subst (λ (names : List (List ℕ)). IsExpansion (expansion placed_after told_by (Some contents) names start (statements_of main_file text)) (statements_of main_file text) expanded files placed) named came))
+    let wanted = expansion placed_after told_of (Some contents) (name ∷ []) (nothing_yet flags) (statements_of main_file text) in
+    of_answer flags name wanted (statements_of main_file text) files placed expanded made (never flags contents name text)
+    (subst (λ (first : Followed). IsExpansion (expansion placed_after told_of (Some contents) (name ∷ []) first (statements_of main_file text)) (statements_of main_file text) expanded files placed) empty
+    (subst (λ (names : List (List ℕ)). IsExpansion (expansion placed_after told_of (Some contents) names start (statements_of main_file text)) (statements_of main_file text) expanded files placed) named came))
     so fit
 
 -- the law of the definition
 abbrev pub Law : Type 0
 Law = (flags : Flags) (contents : Contents) (name source : List ℕ) (made : NotedObject) (files : List (List ℕ)) → assembly_of flags contents name source ≡ assembled made files
-    → StepFits (expansion_of flags.no_warn (Some contents) name source) → ObjectIsReadable flags (handed_of flags contents name source) made.object
+    → SourceIsMade flags contents name source → StepFits flags (expansion_of flags (Some contents) name source) → ObjectIsReadable flags (handed_of flags contents name source) made.object
 
 file_is_readable : Law → (flags : Flags) (contents : Contents) (name : List ℕ) (file : Option (List ℕ)) (text : List ℕ) (rest : Option (List ℕ)) (result : Result Assembled AsmFault)
-    → ReadsFile file (Ok text) rest → AssemblesFile flags contents name file result → TextFits flags (Some contents) name text result → FileIsReadable flags contents name file result
-file_is_readable law flags contents name None text rest result read so fit = tt
-file_is_readable law flags contents name (Some source) text rest (Err fault) read so fit = tt
-file_is_readable law flags contents name (Some source) text rest (Ok made) read so fit =
-    law flags contents name source _ made.files so
-    (subst (λ (bytes : List ℕ). StepFits (expansion_of flags.no_warn (Some contents) name bytes)) read.0 fit)
+    → ReadsFile file (Ok text) rest → FileIsMade flags contents name file → AssemblesFile flags contents name file result → TextFits flags (Some contents) name text result → FileIsReadable flags contents name file result
+file_is_readable law flags contents name None text rest result read made so fit = tt
+file_is_readable law flags contents name (Some source) text rest (Err fault) read made so fit = tt
+file_is_readable law flags contents name (Some source) text rest (Ok answer) read made so fit =
+    law flags contents name source _ answer.files so made
+    (subst (λ (bytes : List ℕ). StepFits flags (expansion_of flags (Some contents) name bytes)) read.0 fit)
 
 -- the object of a text that was read whole is readable
 pub text_is_readable : Law → (flags : Flags) (contents : Option Contents) (name text : List ℕ) (rest : Option (List ℕ)) (result : Result Assembled AsmFault)
-    → ReadsName contents name (Ok text) rest → Assembles flags contents name result → TextFits flags contents name text result → SourceIsReadable flags contents name result
-text_is_readable law flags None name text rest result read so fit = tt
-text_is_readable law flags (Some contents) name text rest result read so fit = file_is_readable law flags contents name (contents name) text rest result read so fit
+    → ReadsName contents name (Ok text) rest → IsMade flags contents name → Assembles flags contents name result → TextFits flags contents name text result → SourceIsReadable flags contents name result
+text_is_readable law flags None name text rest result read made so fit = tt
+text_is_readable law flags (Some contents) name text rest result read made so fit = file_is_readable law flags contents name (contents name) text rest result read made so fit
 
 nothing_of : (flags : Flags) (contents : Contents) (name : List ℕ) (file : Option (List ℕ)) (fault : AsmFault) → FileIsReadable flags contents name file (Err fault)
 nothing_of flags contents name None fault = tt

@@ -4,7 +4,7 @@ use Rattle.asm_base.specs.Inputs.{Contents}
 use Rattle.asm_front.specs.Ending.{Flags}
 use Rattle.asm_front.specs.Outcome.{AssemblesFile, Assembles}
 use Rattle.asm_front.specs.declared.ending.NotedObject.{NotedObject}
-use Rattle.asm_front.specs.Assembly.{assembled, assembly_of, handed_of}
+use Rattle.asm_front.specs.Assembly.{assembled, assembly_of, handed_of, SourceIsMade, FileIsMade, IsMade}
 use Rattle.asm_front.specs.ReadsBack.{ReadsBack, AnswerReadsBack, ReadsBackFrom}
 use Rattle.asm_front.specs.declared.answers.Assembled.{Assembled}
 use Rattle.asm_front.specs.declared.answers.AsmFault.{AsmFault}
@@ -12,17 +12,17 @@ use Rattle.asm_front.specs.declared.answers.AsmFault.{AsmFault}
 -- the law of the definition
 abbrev pub Law : Type 0
 Law = (flags : Flags) (contents : Contents) (name source : List ℕ) (made : NotedObject) (files : List (List ℕ))
-    → assembly_of flags contents name source ≡ assembled made files → ReadsBack flags (handed_of flags contents name source) made.object
+    → assembly_of flags contents name source ≡ assembled made files → SourceIsMade flags contents name source → ReadsBack flags (handed_of flags contents name source) made.object
 
 file_reads_back : Law → (flags : Flags) (contents : Contents) (name : List ℕ) (file : Option (List ℕ)) (result : Result Assembled AsmFault)
-    → AssemblesFile flags contents name file result → AnswerReadsBack flags contents name file result
-file_reads_back law flags contents name None result so = tt
-file_reads_back law flags contents name (Some source) (Ok made) so = law flags contents name source _ made.files so
-file_reads_back law flags contents name (Some source) (Err fault) so = tt
+    → FileIsMade flags contents name file → AssemblesFile flags contents name file result → AnswerReadsBack flags contents name file result
+file_reads_back law flags contents name None result made so = tt
+file_reads_back law flags contents name (Some source) (Ok answer) made so = law flags contents name source _ answer.files so made
+file_reads_back law flags contents name (Some source) (Err fault) made so = tt
 
-pub answer_reads_back : Law → (flags : Flags) (contents : Option Contents) (name : List ℕ) (result : Result Assembled AsmFault) → Assembles flags contents name result → ReadsBackFrom flags contents name result
-answer_reads_back law flags None name result so = tt
-answer_reads_back law flags (Some contents) name result so = file_reads_back law flags contents name (contents name) result so
+pub answer_reads_back : Law → (flags : Flags) (contents : Option Contents) (name : List ℕ) (result : Result Assembled AsmFault) → IsMade flags contents name → Assembles flags contents name result → ReadsBackFrom flags contents name result
+answer_reads_back law flags None name result made so = tt
+answer_reads_back law flags (Some contents) name result made so = file_reads_back law flags contents name (contents name) result made so
 
 no_object_of : (flags : Flags) (contents : Contents) (name : List ℕ) (file : Option (List ℕ)) (fault : AsmFault) → AnswerReadsBack flags contents name file (Err fault)
 no_object_of flags contents name None fault = tt

@@ -16,7 +16,7 @@ use Rattle.asm_values.specs.State.{nothing_placed}
 use Rattle.asm_place.specs.Sources.{pos_at}
 use Rattle.asm_place.specs.Instructions.{next_item, next_offset, IsWithin}
 use Rattle.asm_place.specs.CodePlaces.{field_in, code_fields}
-use Rattle.asm_front.specs.Ending.{Flags}
+use Rattle.asm_front.specs.Ending.{Flags, with_made}
 use Rattle.asm_front.specs.declared.ending.NotedObject.{NotedObject}
 use Rattle.asm_front.specs.ReadsBack.{file_place, final_value, CodesReadBack, ReadsBack}
 use Rattle.asm_front.proofs.SmallForms.{final_small}
@@ -27,6 +27,7 @@ use Rattle.asm_front.proofs.PlacedFacts.{PlaceFacts}
 use Rattle.asm_front.proofs.JumpsInObject.{JumpFacts, jumps_read_back}
 use Rattle.asm_front.proofs.Lists.{all_there}
 use Rattle.asm_front.proofs.SettledObjects.{AreSettled, drop_stands}
+use Rattle.asm_front.proofs.FramedSymbols.{AreCovered}
 use Rattle.asm_front.proofs.FramesInObject.{FrameFacts, frames_read_back}
 use Rattle.asm_front.proofs.ObjectReads.{Makes, origin, all_placed, are_reached, bare_read_back}
 
@@ -56,7 +57,7 @@ codes_read_back settled one_way fills places unknown table facts flags handed ma
     let offset = next_offset placed in
     let code = insn.coded.made.bytes in
     let fields = code_fields text insn.coded.forms insn.coded.made in
-    let with_table = is_framed table whole tables (facts.within (before ++ s ∷ after) empty whole all begins) from.frames in
+    let with_table = is_framed table (with_made flags.scfi whole) tables (facts.within (before ++ s ∷ after) empty whole all begins) from.frames in
     let stands = code_stays whole.sections tables.sections number item offset pos code fields with_table.grows insn.stands in
     let section = stands.section in
     let within : IsWithin section = all_there IsWithin tables.sections number section stands.found with_table.within in
@@ -77,12 +78,12 @@ codes_read_back settled one_way fills places unknown table facts flags handed ma
 
 -- each instruction that is handed out reads back
 pub reads_back : AreSettled → ReadsOneWay → BareCodesRead → EncodingsFill → EncodingsApart → EncodingsHoldUnknown → TableFacts → PlaceFacts → JumpFacts → FrameFacts → (flags : Flags)
-    (handed : List TokenStatement) (made : NotedObject) → Makes flags handed made → ReadsBack flags handed made.object
-reads_back settled one_way read fills places unknown table facts jumps frames flags handed made e = record {
+    (handed : List TokenStatement) (made : NotedObject) (e : Makes flags handed made) → AreCovered flags.scfi e.whole → ReadsBack flags handed made.object
+reads_back settled one_way read fills places unknown table facts jumps frames flags handed made e covered = record {
   made = origin flags handed made e;
   reached = are_reached flags handed made e;
   bare = bare_read_back settled one_way read table facts flags handed made e;
   coded = codes_read_back settled one_way fills places unknown table facts flags handed made e;
-  jumps = jumps_read_back settled one_way table facts jumps flags handed made e;
-  frames = frames_read_back settled table facts jumps frames flags handed made e;
+  jumps = jumps_read_back settled one_way table facts jumps flags handed made e covered;
+  frames = frames_read_back settled table facts jumps frames flags handed made e covered;
 }

@@ -14,10 +14,10 @@ use Rattle.asm_uses.specs.Tables.{Table, with_map}
 use Rattle.asm_frags.specs.Writing.{LooseSection}
 use Rattle.asm_base.specs.Refusals.{◌>>=◌}
 use Rattle.asm_lines.specs.NextStatements.{TokenStatement}
-use Rattle.asm_values.specs.State.{Placed}
-use Rattle.asm_place.specs.Sources.{place, place_all}
+use Rattle.asm_functions.specs.Followed.{Followed, place_followed, follow_all, notes_of}
 use Rattle.asm_place.specs.declared.place_faults.FaultAt.{FaultAt}
-use Rattle.asm_front.specs.Ending.{noted, laid_end, unclosed, first_line, with_frames, framed_end, unless_open, finished}
+use Rattle.asm_front.specs.Synthesis.{Synthesis}
+use Rattle.asm_front.specs.Ending.{Flags, noted, laid_end, unclosed, first_line, with_frames, framed_end, unless_open, finished, procedures_by, unless_fault, followed_end}
 use Rattle.asm_front.specs.declared.ending.NotedObject.{NotedObject}
 use Rattle.asm_front.specs.declared.ending.Ended.{Ended}
 
@@ -55,14 +55,15 @@ finished_fine fatal sections table procedures notes =
     closed_fine (unclosed procedures) notes _
     (framed_fine fatal table (first_line (frames_of procedures)) notes (with_frames procedures table.symbols sections))
 
--- the end of a source is no reading of a file
-pub end_is_no_reading : (fatal : Bool) (sections : List LooseSection) (table : Table) (procedures : Procedures) (notes : List Noted) (fault : FaultAt)
-    → finished fatal sections table procedures notes ≡ Err fault → is_file_too_large fault.fault ≡ false
-end_is_no_reading fatal sections table procedures notes fault is =
-    IfErr-at_err (λ at. is_file_too_large at.fault ≡ false) is (finished_fine fatal sections table procedures notes).holds
+-- nor has synthesis such a fault
+made_fine : (made : Option Synthesis) (notes : List Noted) (answer : Result NotedObject FaultAt) → NotTooLarge answer → NotTooLarge (unless_fault made notes answer)
+made_fine None notes answer fine = fine
+made_fine (Some (Ok frames)) notes answer fine = fine
+made_fine (Some (Err at)) notes answer fine = a_fault _ refl
 
--- nor is the placing of a statement
-pub placing_is_small : ((statements : List TokenStatement) (before : Placed) (fault : FaultAt) → place_all statements before ≡ Err fault → is_file_too_large fault.fault ≡ false)
-    → (s : TokenStatement) (before : Placed) (fault : FaultAt) → place s before ≡ Err fault → is_file_too_large fault.fault ≡ false
-unfolding place_all
-placing_is_small none s before fault is = none (s ∷ []) before fault (ap (λ answer. answer >>= place_all []) is)
+-- the end of a source is no reading of a file
+pub end_is_no_reading : (flags : Flags) (f : Followed) (fault : FaultAt) → followed_end flags f ≡ Err fault → is_file_too_large fault.fault ≡ false
+end_is_no_reading flags f fault is =
+    IfErr-at_err (λ at. is_file_too_large at.fault ≡ false) is
+    (made_fine flags.scfi (notes_of f) _
+    (finished_fine flags.fatal_warnings f.placed.sections f.placed.table (procedures_by flags.scfi f.placed.procedures) (notes_of f))).holds

@@ -32,7 +32,8 @@ use Rattle.asm_place.specs.declared.place_faults.FaultAt.{FaultAt}
 use Rattle.asm_values.specs.State.{Placed, nothing_placed}
 use Rattle.asm_macro.specs.Placing.{Step, ended}
 use Rattle.asm_front.specs.Assembly.{assembled, assembly_of, expansion_of, handed_of}
-use Rattle.asm_front.specs.Ending.{Flags, framed}
+use Rattle.asm_functions.specs.Followed.{Followed}
+use Rattle.asm_front.specs.Ending.{Flags, framed, with_made}
 use Rattle.asm_front.specs.Fitting.{LayoutFits, TablesFit, StepFits, IsReadable, ObjectIsReadable}
 use Rattle.asm_front.specs.ReadsBack.{FramesReadBack, Origin, ReadsBack}
 use Rattle.asm_front.specs.declared.ending.NotedObject.{NotedObject}
@@ -137,17 +138,20 @@ readable facts object whole tables laid small frames settles read fit =
     record { fits = all.0; few = all.1; sections = facts.found tables.symbols laid all.0 }
 
 -- what is said of the object of one layout is said of the one that it is made of
-pub object_is_readable : SmallFacts → (flags : Flags) (handed : List TokenStatement) (object : List ℕ) (names : List (List ℕ)) (came : Step Placed FaultAt) (whole : Placed)
-    → ReadsBack flags handed object → came ≡ ended names whole → place_all handed (nothing_placed flags.no_warn) ≡ Ok whole → StepFits came → ObjectIsReadable flags handed object
-object_is_readable facts flags handed object names came whole read is places fit made =
-    let end : TablesFit (framed whole) = subst StepFits is fit in
+pub object_is_readable : SmallFacts → (flags : Flags) (handed : List TokenStatement) (object : List ℕ) (names : List (List ℕ)) (came : Step Followed FaultAt) (f : Followed)
+    → ReadsBack flags handed object → came ≡ ended names f → place_all handed (nothing_placed flags.no_warn) ≡ Ok f.placed → StepFits flags came → ObjectIsReadable flags handed object
+object_is_readable facts flags handed object names came f read is places fit made =
+    let whole = f.placed in
+    let end : TablesFit (framed (with_made flags.scfi whole)) = subst (StepFits flags) is fit in
     let one : whole ≡ made.whole = same_answer _ whole made.whole places made.places in
     let other : read.made.whole ≡ made.whole = same_answer _ read.made.whole made.whole read.made.places made.places in
-    let tables : read.made.tables ≡ made.tables = same_answer _ read.made.tables made.tables read.made.frames (ap framed other ∙ made.frames) in
+    let tables : read.made.tables ≡ made.tables = same_answer _ read.made.tables made.tables read.made.frames (ap (λ (w : Placed). framed (with_made flags.scfi w)) other ∙ made.frames) in
     let laid : read.made.laid ≡ made.laid =
     same_answer _ read.made.laid made.laid read.made.settles (ap (λ (t : Tables). layout_of t.symbols t.sections) tables ∙ made.settles) in
-    let first = subst (λ (w : Placed). FramesReadBack object w read.made.tables.symbols read.made.laid) other read.frames in
-    let second = subst (λ (t : Tables). FramesReadBack object made.whole t.symbols read.made.laid) tables first in
-    let frames : FramesReadBack object made.whole made.tables.symbols made.laid = subst (λ (l : LaidSections). FramesReadBack object made.whole made.tables.symbols l) laid second in
-    readable facts object made.whole made.tables made.laid (facts.small handed flags.no_warn made.whole made.places) made.frames made.settles frames
-    (subst (λ (w : Placed). TablesFit (framed w)) one end)
+    let full = with_made flags.scfi made.whole in
+    let first = subst (λ (w : Placed). FramesReadBack object (with_made flags.scfi w) read.made.tables.symbols read.made.laid) other read.frames in
+    let second = subst (λ (t : Tables). FramesReadBack object full t.symbols read.made.laid) tables first in
+    let frames : FramesReadBack object full made.tables.symbols made.laid = subst (λ (l : LaidSections). FramesReadBack object full made.tables.symbols l) laid second in
+    let small = facts.small handed flags.no_warn made.whole made.places in
+    readable facts object full made.tables made.laid (record { sections = small.sections; symbols = small.symbols }) made.frames made.settles frames
+    (subst (λ (w : Placed). TablesFit (framed (with_made flags.scfi w))) one end)

@@ -1,5 +1,5 @@
 -- Symbols stand in the sections with the frame table, and those that it brings are labels.
-use Rattle.std.proofs.Common.{◌≡◌, ℕ, zero, suc, ◌<◌, List, [], ◌∷◌, ◌++◌, All, Some, Ok, length, sym, ap, ◌∙◌, subst, arith, append-nil, length-append}
+use Rattle.std.proofs.Common.{◌≡◌, ℕ, zero, suc, ◌<◌, List, Option, [], ◌∷◌, ◌++◌, All, Some, Ok, length, sym, ap, ◌∙◌, subst, arith, append-nil, length-append}
 use Rattle.std.proofs.lemmas.List.Elements.{All-nil, All-head, All-tail, All-append, All-weaker}
 use Rattle.std.proofs.lemmas.Option.{none-some}
 use Rattle.asm_expr.specs.Forms.{Form}
@@ -18,7 +18,9 @@ use Rattle.eh_frame.specs.StandingPlaces.{HoldsItems, FrameStands, LabelStands, 
 use Rattle.asm_values.specs.State.{Placed}
 use Rattle.asm_place.specs.Instructions.{with_more, Grows, AreWithin}
 use Rattle.asm_place.specs.SymbolPlaces.{HasItems, MeaningStands, SymbolStands, SymbolsStand, ProcedureStands, PlacesStand}
-use Rattle.asm_front.specs.Ending.{framed}
+use Rattle.frame_laws.specs.PlacedTables.{IsCovered}
+use Rattle.asm_front.specs.Synthesis.{Synthesis}
+use Rattle.asm_front.specs.Ending.{framed, procedures_by}
 use Rattle.asm_front.proofs.FramedSections.{TableFacts, tables_within}
 use Rattle.asm_front.proofs.JumpFields.{StandUpTo}
 
@@ -46,11 +48,19 @@ labels_by facts [] tables after within stand is =
 labels_by facts (frame ∷ frames) tables after within stand is = facts.labels frame frames tables after (tables_within tables.sections within) stand is
 
 -- so do those of the table of what was placed
-pub labels_framed : TableFacts → (whole : Placed) (tables : Tables) → AreWithin whole.sections → PlacesStand whole → framed whole ≡ Ok tables
+pub labels_framed : TableFacts → (whole : Placed) (tables : Tables) → AreWithin whole.sections → All (FrameStands whole.sections) (frames_of whole.procedures) → framed whole ≡ Ok tables
     → GetsStanding tables.sections whole.table.symbols tables.symbols
-labels_framed facts whole tables within stands is =
-    labels_by facts (frames_of whole.procedures) (tables_of whole.table.symbols whole.sections) tables within
-    (All-weaker (ProcedureStands whole.sections) (FrameStands whole.sections) (frame_stands whole.sections) (frames_of whole.procedures) stands.procedures) is
+labels_framed facts whole tables within stand is =
+    labels_by facts (frames_of whole.procedures) (tables_of whole.table.symbols whole.sections) tables within stand is
+
+-- the procedures of what was placed, or the functions in place of them, cover places of their sections
+abbrev pub AreCovered : Option Synthesis → Placed → Type 0
+AreCovered made whole = All (IsCovered whole.sections) (frames_of (procedures_by made whole.procedures))
+
+-- so their places stand
+pub covered_stand : (made : Option Synthesis) (whole : Placed) → AreCovered made whole → All (FrameStands whole.sections) (frames_of (procedures_by made whole.procedures))
+covered_stand made whole covered =
+    All-weaker (IsCovered whole.sections) (FrameStands whole.sections) (λ frame covers. covers.stands) (frames_of (procedures_by made whole.procedures)) covered
 
 -- ALL SYMBOLS
 

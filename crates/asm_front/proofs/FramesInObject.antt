@@ -1,5 +1,5 @@
 -- The frame table of the procedures that statements place reads in their object.
-use Rattle.std.proofs.Common.{◌≡◌, ℕ, inl, inr, Bool, List, ◌∷◌, ◌++◌, All, Option, None, Some, Ok, Result, map, length, option_to_list, refl, sym, ap, ◌∙◌, subst, append-nil}
+use Rattle.std.proofs.Common.{◌≡◌, ℕ, inl, inr, Bool, List, ◌∷◌, ◌++◌, All, Option, None, Some, Ok, Err, Result, map, length, option_to_list, refl, sym, ap, ◌∙◌, subst, append-nil}
 use Rattle.std.specs.Prelude.{option_map}
 use Rattle.std.proofs.lemmas.List.Elements.{All-weaker}
 use Rattle.asm_base.specs.declared.notes.Noted.{Noted}
@@ -29,11 +29,16 @@ use Rattle.eh_frame.specs.Placing.{placed}
 use Rattle.frame_laws.specs.PlacedTables.{IsCovered, SymbolHolds, AreReady}
 use Rattle.frame_laws.specs.TableReads.{TableReads, FrameTablesRead}
 use Rattle.asm_front.proofs.SettledObjects.{AreSettled}
-use Rattle.asm_front.specs.Ending.{Flags, unclosed, first_line, framed, framed_end, unless_open, finished}
+use Rattle.asm_functions.specs.Followed.{Followed, notes_of}
+use Rattle.asm_functions.specs.Standing.{StandsInOrder}
+use Rattle.synthesis_laws.specs.WrittenTables.{TablesCanBeWritten}
+use Rattle.asm_front.specs.Synthesis.{Synthesis, IsMadeAt}
+use Rattle.asm_front.specs.Ending.{Flags, unclosed, first_line, framed, framed_end, unless_open, finished, procedures_by, with_made, unless_fault, followed_end}
 use Rattle.asm_front.specs.declared.ending.NotedObject.{NotedObject}
 use Rattle.asm_front.specs.ReadsBack.{FramesReadBack}
 use Rattle.asm_front.proofs.FramedSections.{TableFacts, is_framed, tables_within}
-use Rattle.asm_front.proofs.FramedSymbols.{frame_stands, holds_items}
+use Rattle.asm_front.proofs.FramedSymbols.{AreCovered, frame_stands, holds_items}
+use Rattle.asm_front.proofs.SynthesizedFrames.{functions_covered}
 use Rattle.asm_front.proofs.JumpsInObject.{JumpFacts}
 use Rattle.asm_front.proofs.LowLayouts.{layout_low}
 use Rattle.asm_front.proofs.ObjectReads.{Makes, origin}
@@ -57,15 +62,15 @@ none_begun None is = refl
 none_begun (Some frame) is = absurd cc
 
 -- all procedures of an object have ended
-all_closed : (fatal : Bool) (whole : Placed) (made : NotedObject) → finished fatal whole.sections whole.table whole.procedures whole.notes ≡ Ok made
+all_ended : (fatal : Bool) (whole : Placed) (notes : List Noted) (made : NotedObject) → finished fatal whole.sections whole.table whole.procedures notes ≡ Ok made
     → frames_of whole.procedures ≡ whole.procedures.closed
 unfolding finished
-all_closed fatal whole made e =
-    let none = no_place (unclosed whole.procedures) whole.notes (framed_end fatal whole.table (first_line (frames_of whole.procedures)) whole.notes (framed whole)) made e in
+all_ended fatal whole notes made e =
+    let none = no_place (unclosed whole.procedures) notes (framed_end fatal whole.table (first_line (frames_of whole.procedures)) notes (framed whole)) made e in
     ap (λ (begun : Option Frame). whole.procedures.closed ++ option_to_list begun) (none_begun whole.procedures.begun none) ∙ append-nil whole.procedures.closed
 
 -- each of them covers places of its section
-frames_covered : (whole : Placed) → PlacesStand whole → StandInOrder whole.sections whole.procedures → frames_of whole.procedures ≡ whole.procedures.closed
+pub frames_covered : (whole : Placed) → PlacesStand whole → StandInOrder whole.sections whole.procedures → frames_of whole.procedures ≡ whole.procedures.closed
     → All (IsCovered whole.sections) whole.procedures.closed
 frames_covered whole stands ordered closed = λ k default within. (
     let inside = ordered.closed k default within in
@@ -75,6 +80,22 @@ frames_covered whole stands ordered closed = λ k default within. (
       stands = frame_stands whole.sections _ (subst (All (ProcedureStands whole.sections)) closed stands.procedures k default within);
       stop = record { held = inside.held; there = inside.there; items = inside.stop.enough; bytes = inside.stop.within };
     })
+
+-- so do the procedures of an object, or the functions in place of them
+pub are_covered : JumpFacts → FrameFacts → TablesCanBeWritten → (flags : Flags) (handed : List TokenStatement) (f : Followed) (made : NotedObject)
+    → place_all handed (nothing_placed flags.no_warn) ≡ Ok f.placed → All (StandsInOrder f.placed.sections) f.functions → IsMadeAt flags.scfi f
+    → followed_end flags f ≡ Ok made → AreCovered flags.scfi f.placed
+are_covered facts frames_facts written flags handed f made all ordered = by_synthesis flags.scfi
+  where
+    by_synthesis : (scfi : Option Synthesis) → IsMadeAt scfi f
+        → unless_fault scfi (notes_of f) (finished flags.fatal_warnings f.placed.sections f.placed.table (procedures_by scfi f.placed.procedures) (notes_of f)) ≡ Ok made
+        → AreCovered scfi f.placed
+    by_synthesis None is ends =
+        let closed = all_ended flags.fatal_warnings f.placed (notes_of f) made ends in
+        subst (All (IsCovered f.placed.sections)) (sym closed)
+        (frames_covered f.placed (facts.places handed (nothing_placed flags.no_warn) f.placed all (facts.starts flags.no_warn)) (frames_facts.ordered handed flags.no_warn f.placed all) closed)
+    by_synthesis (Some (Ok frames)) is ends = subst (All (IsCovered f.placed.sections)) (sym (append-nil frames)) (functions_covered written f frames is ordered)
+    by_synthesis (Some (Err at)) is ends = absurd cc
 
 -- THE SYMBOLS
 
@@ -116,19 +137,16 @@ placed_ready table placing facts statements no_warn whole is =
 
 -- the frame table of an object reads as the directives of its procedures mean
 pub frames_read_back : AreSettled → TableFacts → PlaceFacts → JumpFacts → FrameFacts → (flags : Flags) (handed : List TokenStatement) (made : NotedObject)
-    (e : Makes flags handed made)
-    → FramesReadBack made.object e.whole (origin flags handed made e).tables.symbols (origin flags handed made e).laid
-frames_read_back settled table placing facts frames_facts flags handed made e frame frames are =
+    (e : Makes flags handed made) → AreCovered flags.scfi e.whole
+    → FramesReadBack made.object (with_made flags.scfi e.whole) (origin flags handed made e).tables.symbols (origin flags handed made e).laid
+frames_read_back settled table placing facts frames_facts flags handed made e all_covered frame frames are =
     let from = origin flags handed made e in
     let whole = from.whole in
     let tables = from.tables in
     let laid = from.laid in
     let all = from.places in
     let no_warn = flags.no_warn in
-    let stands = facts.places handed (nothing_placed no_warn) whole all (facts.starts no_warn) in
-    let ordered = frames_facts.ordered handed no_warn whole all in
-    let closed = all_closed flags.fatal_warnings whole made e.ends in
-    let covered = subst (All (IsCovered whole.sections)) (sym closed ∙ are) (frames_covered whole stands ordered closed) in
+    let covered = subst (All (IsCovered whole.sections)) are all_covered in
     let ready = placed_ready table placing facts handed no_warn whole all in
     let with_table : placed (frame ∷ frames) (tables_of whole.table.symbols whole.sections) ≡ Ok tables =
     sym (ap (λ (all : List Frame). placed all (tables_of whole.table.symbols whole.sections)) are) ∙ from.frames in
@@ -136,7 +154,7 @@ frames_read_back settled table placing facts frames_facts flags handed made e fr
     let laid_is = settled.layouts.settled tables.symbols tables.sections laid from.settles in
     let small = sections_small facts.addresses laid
     (subst (λ (all : LaidSections). map placed_section all ≡ all) (sym laid_is) (settled.placed tables.symbols (planned tables.symbols tables.sections))) none in
-    let within = (is_framed table whole tables (placing.within handed (nothing_placed no_warn) whole all (placing.begins no_warn)) from.frames).within in
+    let within = (is_framed table (with_made flags.scfi whole) tables (placing.within handed (nothing_placed no_warn) whole all (placing.begins no_warn)) from.frames).within in
     let low = layout_low facts.rise facts.count tables.symbols tables.sections within (subst (All IsSmall) laid_is none) in
     subst (λ (file : List ℕ). TableReads file tables.symbols laid (frame ∷ frames)) (sym from.image)
     (frames_facts.read frame frames (tables_of whole.table.symbols whole.sections) tables laid ready covered with_table from.settles (record { small = small; rows = low }))

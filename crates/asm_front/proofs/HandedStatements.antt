@@ -1,90 +1,153 @@
 -- What is made of a source is made of the statements that its expansion hands out.
-use Rattle.std.proofs.Common.{◌≡◌, ℕ, Bool, true, false, cond, nat_lt, List, [], ◌∷◌, length, map, Option, Some, Result, Ok, Err, refl, sym, ap, ◌∙◌}
+use Rattle.std.proofs.Common.{◌≡◌, ℕ, Bool, true, false, cond, nat_lt, ◌≤◌, List, [], ◌∷◌, length, map, fold, Option, None, Some, Result, Ok, Err, refl, sym, subst, ◌∙◌, arith}
+use Rattle.std.proofs.lemmas.Bool.Decides.{nat_tests}
 use Rattle.asm_base.specs.Inputs.{Contents}
 use Rattle.asm_base.specs.WholeFile.{most_bytes}
 use Rattle.asm_lines.specs.NextStatements.{TokenStatement, in_tokens}
-use Rattle.asm_lines.specs.Placing.{placed_in_order}
+use Rattle.asm_lines.specs.Placing.{placed_next, placed_in_order}
 use Rattle.asm_lines.specs.Statements.{StatementAt, statements_of}
 use Rattle.asm_lines.specs.declared.faults.LineCause.{LineCause}
 use Rattle.macro_words.specs.Conditions.{Knowledge}
 use Rattle.asm_macro.specs.Expansion.{started}
 use Rattle.asm_macro.specs.Laws.{PlacesHanded}
 use Rattle.asm_macro.specs.Placing.{Step, goes, ended, fails, refused, misses, untold, expansion, handed, most_turns, steps}
+use Rattle.asm_base.specs.Refusals.{◌>>=◌}
+use Rattle.asm_functions.specs.Followed.{Followed, nothing_followed, place_followed, follow_all, placed_part, notes_of}
 use Rattle.asm_place.specs.Sources.{place_all}
 use Rattle.asm_place.specs.declared.place_faults.FaultAt.{FaultAt}
 use Rattle.asm_values.specs.State.{Placed, nothing_placed}
-use Rattle.asm_front.specs.Assembly.{Assembly, assembled, faulty, placed_after, ended_by, assembly_by, expansion_of, assembly_of, handed_by, handed_of, shown_files, main_file, too_large}
-use Rattle.asm_front.specs.Ending.{Flags, finished}
-use Rattle.asm_front.specs.Knowing.{told_by}
+use Rattle.asm_base.specs.declared.notes.Noted.{Noted}
+use Rattle.asm_front.specs.Assembly.{Assembly, assembled, faulty, is_asked, nothing_yet, placed_after, told_of, ended_by, assembly_by, expansion_of, assembly_of, handed_by, handed_of, shown_files, main_file, too_large, StepIsMade, SourceIsMade}
+use Rattle.asm_front.specs.Synthesis.{Synthesis, IsMadeAt}
+use Rattle.asm_front.specs.Ending.{Flags, finished, procedures_by, unless_fault, followed_end}
 use Rattle.asm_front.specs.declared.ending.NotedObject.{NotedObject}
 use Rattle.asm_front.proofs.ObjectReads.{Makes}
 
+-- STATEMENTS IN ORDER
+
+fault_stays : (statements : List TokenStatement) (fault : FaultAt) → fold (placed_next placed_after) (Err fault) statements ≡ Err fault
+fault_stays [] fault = refl
+fault_stays (s ∷ later) fault = fault_stays later fault
+
+in_order_step : (answer : Result Followed FaultAt) (later : List TokenStatement)
+    → ((f : Followed) → fold (placed_next placed_after) (Ok f) later ≡ follow_all later f)
+    → fold (placed_next placed_after) answer later ≡ (answer >>= follow_all later)
+in_order_step (Ok f) later all = all f
+in_order_step (Err fault) later all = fault_stays later fault
+
+folded : (statements : List TokenStatement) (before : Followed) → fold (placed_next placed_after) (Ok before) statements ≡ follow_all statements before
+unfolding follow_all
+folded [] before = refl
+folded (s ∷ later) before = in_order_step (place_followed s before) later (folded later)
+
 -- statements that are placed as they are handed out are placed in order
-abbrev pub InOrder : Type 0
-InOrder = (statements : List TokenStatement) (before : Placed) → placed_in_order placed_after before statements ≡ place_all statements before
+in_order : (statements : List TokenStatement) (before : Followed) → placed_in_order placed_after before statements ≡ follow_all statements before
+unfolding placed_in_order
+in_order statements before = folded statements before
+
+-- WHERE A LIST ENDS
 
 -- where a list comes to its end, its statements make what was made
 abbrev pub Places : Type 0
-Places = (known : Placed → Knowledge) (files : List (List ℕ)) (statements : List TokenStatement) (contents : Option Contents) (placer : Placed)
+Places = (known : Followed → Knowledge) (files : List (List ℕ)) (statements : List TokenStatement) (contents : Option Contents) (placer : Followed)
     → PlacesHanded placed_after known files statements contents placer
 
+-- what is placed and followed is placed, without the directives that are ignored
+abbrev pub Follows : Type 0
+Follows = (statements : List TokenStatement) (before f : Followed) → follow_all statements before ≡ Ok f
+    → place_all (map (placed_part before.asked) statements) before.placed ≡ Ok f.placed
+
 -- a list that has an object came to its end
-ended_is : (fatal : Bool) (name : List ℕ) (came : Step Placed FaultAt) (made : NotedObject) (files : List (List ℕ)) → assembly_by fatal name came ≡ assembled made files
-    → (names : List (List ℕ)) × (whole : Placed) × (came ≡ ended names whole) × (finished fatal whole.sections whole.table whole.procedures whole.notes ≡ Ok made)
-ended_is fatal name (ended names whole) made files is = (names, whole, refl, object_is (finished fatal whole.sections whole.table whole.procedures whole.notes) is)
+ended_is : (flags : Flags) (name : List ℕ) (came : Step Followed FaultAt) (made : NotedObject) (files : List (List ℕ)) → assembly_by flags name came ≡ assembled made files
+    → (names : List (List ℕ)) × (f : Followed) × (came ≡ ended names f) × (followed_end flags f ≡ Ok made)
+ended_is flags name (ended names f) made files is = (names, f, refl, object_is (followed_end flags f) is)
   where
     object_is : (answer : Result NotedObject FaultAt) → ended_by (shown_files name names) answer ≡ assembled made files → answer ≡ Ok made
     object_is (Ok noted) same = cc
     object_is (Err fault) same = absurd cc
-ended_is fatal name (fails names cause pos placed) made files is = absurd cc
-ended_is fatal name (refused names fault) made files is = absurd cc
-ended_is fatal name (misses names) made files is = absurd cc
-ended_is fatal name untold made files is = absurd cc
-ended_is fatal name (goes state placed) made files is = absurd cc
+ended_is flags name (fails names cause pos f) made files is = absurd cc
+ended_is flags name (refused names fault) made files is = absurd cc
+ended_is flags name (misses names) made files is = absurd cc
+ended_is flags name untold made files is = absurd cc
+ended_is flags name (goes state f) made files is = absurd cc
 
 -- a source that has an object is not too large
 not_large : (large : Bool) (fault came : Assembly) (made : NotedObject) (files : List (List ℕ)) → ((made : NotedObject) (files : List (List ℕ)) → fault ≡ assembled made files → ⊥)
-    → cond large fault came ≡ assembled made files → came ≡ assembled made files
+    → cond large fault came ≡ assembled made files → (came ≡ assembled made files) × (large ≡ false)
 not_large true fault came made files never is = absurd (never made files is)
-not_large false fault came made files never is = is
+not_large false fault came made files never is = (is, refl)
 
--- the same, and the list that was handed out came to its end with what the statements place
-pub record MakesAtEnd (flags : Flags) (came : Step Placed FaultAt) (handed : List TokenStatement) (made : NotedObject) : Type 0 where
-  pub makes : Makes flags handed made
+-- the list that was handed out came to its end with what the statements place and what they do to functions, and that has this object
+pub record MakesAtEnd (flags : Flags) (came : Step Followed FaultAt) (statements : List TokenStatement) (made : NotedObject) : Type 0 where
+  pub f : Followed
   pub names : List (List ℕ)
-  pub comes : came ≡ ended names makes.whole
+  pub comes : came ≡ ended names f
+  pub follows : follow_all statements (nothing_yet flags) ≡ Ok f
+  pub ends : followed_end flags f ≡ Ok made
 
 -- the object of a source with these lines is made of the statements that are handed out
-by_lines : Places → InOrder → (flags : Flags) (contents : Contents) (name : List ℕ) (lines : Result (List StatementAt) LineCause) (made : NotedObject) (files : List (List ℕ))
-    → assembly_by flags.fatal_warnings name (expansion placed_after told_by (Some contents) (name ∷ []) (nothing_placed flags.no_warn) lines) ≡ assembled made files
-    → MakesAtEnd flags (expansion placed_after told_by (Some contents) (name ∷ []) (nothing_placed flags.no_warn) lines) (handed_by flags.no_warn contents name lines) made
+by_lines : Places → (flags : Flags) (contents : Contents) (name : List ℕ) (lines : Result (List StatementAt) LineCause) (made : NotedObject) (files : List (List ℕ))
+    → assembly_by flags name (expansion placed_after told_of (Some contents) (name ∷ []) (nothing_yet flags) lines) ≡ assembled made files
+    → MakesAtEnd flags (expansion placed_after told_of (Some contents) (name ∷ []) (nothing_yet flags) lines) (handed_by flags contents name lines) made
 unfolding expansion
-by_lines places in_order flags contents name (Err cause) made files is = absurd cc
-by_lines places in_order flags contents name (Ok statements) made files is =
-    let empty = nothing_placed flags.no_warn in
+by_lines places flags contents name (Err cause) made files is = absurd cc
+by_lines places flags contents name (Ok statements) made files is =
+    let empty = nothing_yet flags in
     let list = started (name ∷ []) (map in_tokens statements) in
-    let end = ended_is flags.fatal_warnings name (steps placed_after told_by (Some contents) most_turns list empty) made files is in
+    let end = ended_is flags name (steps placed_after told_of (Some contents) most_turns list empty) made files is in
     record {
-      makes = record {
-        whole = end.1;
-        places = sym (in_order (handed placed_after told_by (Some contents) most_turns list empty) empty)
-            ∙ places told_by (name ∷ []) (map in_tokens statements) (Some contents) empty most_turns end.0 end.1 end.2;
-        ends = end.3;
-      };
+      f = end.1;
       names = end.0;
       comes = end.2;
+      follows = sym (in_order (handed placed_after told_of (Some contents) most_turns list empty) empty)
+          ∙ places told_of (name ∷ []) (map in_tokens statements) (Some contents) empty most_turns end.0 end.1 end.2;
+      ends = end.3;
     }
 
 -- the object of a source is made of the statements that are handed out, at the end of its list
-pub handed_comes : Places → InOrder → (flags : Flags) (contents : Contents) (name source : List ℕ) (made : NotedObject) (files : List (List ℕ))
+pub handed_comes : Places → (flags : Flags) (contents : Contents) (name source : List ℕ) (made : NotedObject) (files : List (List ℕ))
     → assembly_of flags contents name source ≡ assembled made files
-    → MakesAtEnd flags (expansion_of flags.no_warn (Some contents) name source) (handed_of flags contents name source) made
-unfolding assembly_of expansion_of handed_of
-handed_comes places in_order flags contents name source made files is =
-    by_lines places in_order flags contents name (statements_of main_file source) made files
-    (not_large (nat_lt most_bytes (length source)) (faulty (too_large main_file) (shown_files name [])) _ made files (λ made files same. absurd cc) is)
+    → MakesAtEnd flags (expansion_of flags (Some contents) name source) (handed_by flags contents name (statements_of main_file source)) made
+unfolding assembly_of expansion_of
+handed_comes places flags contents name source made files is =
+    by_lines places flags contents name (statements_of main_file source) made files
+    (not_large (nat_lt most_bytes (length source)) (faulty (too_large main_file) (shown_files name [])) _ made files (λ made files same. absurd cc) is).0
 
--- the same, without the list
-pub handed_makes : Places → InOrder → (flags : Flags) (contents : Contents) (name source : List ℕ) (made : NotedObject) (files : List (List ℕ))
-    → assembly_of flags contents name source ≡ assembled made files → Makes flags (handed_of flags contents name source) made
-handed_makes places in_order flags contents name source made files is = (handed_comes places in_order flags contents name source made files is).makes
+-- a source that has an object is not too large
+pub source_fits : (flags : Flags) (contents : Contents) (name source : List ℕ) (made : NotedObject) (files : List (List ℕ))
+    → assembly_of flags contents name source ≡ assembled made files → length source ≤ most_bytes
+unfolding assembly_of
+source_fits flags contents name source made files is =
+    let test = (not_large (nat_lt most_bytes (length source)) (faulty (too_large main_file) (shown_files name [])) (assembly_by flags name (expansion_of flags (Some contents) name source)) made files
+    (λ made files same. absurd cc) is).1 in
+    grind (arith, nat_tests)
+
+-- what synthesis comes to there
+pub made_at_end : (flags : Flags) (contents : Contents) (name source : List ℕ) (made : NotedObject) (files : List (List ℕ)) (names : List (List ℕ)) (f : Followed)
+    → assembly_of flags contents name source ≡ assembled made files → SourceIsMade flags contents name source
+    → expansion_of flags (Some contents) name source ≡ ended names f → IsMadeAt flags.scfi f
+made_at_end flags contents name source made files names f is so comes =
+    subst (StepIsMade flags.scfi) comes (so (source_fits flags contents name source made files is))
+
+-- an object has no fault of synthesis
+pub unless_fault_is : (scfi : Option Synthesis) (notes : List Noted) (answer : Result NotedObject FaultAt) (made : NotedObject) → unless_fault scfi notes answer ≡ Ok made → answer ≡ Ok made
+unless_fault_is None notes answer made is = is
+unless_fault_is (Some (Ok frames)) notes answer made is = is
+unless_fault_is (Some (Err at)) notes answer made is = absurd cc
+
+-- what the statements place that are handed out makes the object
+pub handed_placed : Follows → (flags : Flags) (contents : Contents) (name source : List ℕ) (f : Followed)
+    → follow_all (handed_by flags contents name (statements_of main_file source)) (nothing_yet flags) ≡ Ok f
+    → place_all (handed_of flags contents name source) (nothing_placed flags.no_warn) ≡ Ok f.placed
+unfolding handed_of
+handed_placed follows flags contents name source f is = follows (handed_by flags contents name (statements_of main_file source)) (nothing_yet flags) f is
+
+abbrev pub made_of : (flags : Flags) (handed : List TokenStatement) (f : Followed) (made : NotedObject) → place_all handed (nothing_placed flags.no_warn) ≡ Ok f.placed
+    → followed_end flags f ≡ Ok made → Makes flags handed made
+made_of flags handed f made places ends = record {
+  whole = f.placed;
+  notes = notes_of f;
+  places = places;
+  ends = unless_fault_is flags.scfi (notes_of f)
+      (finished flags.fatal_warnings f.placed.sections f.placed.table (procedures_by flags.scfi f.placed.procedures) (notes_of f)) made ends;
+}

@@ -50,11 +50,12 @@ use Rattle.asm_place.specs.JumpPlaces.{IsJump, jump_form, items_so_far, jump_fie
 use Rattle.asm_place.specs.Sources.{pos_at, place_all}
 use Rattle.x86_insn.specs.declared.amounts.FieldKind.TheVariants as kind
 use Rattle.eh_frame.specs.Pieces.{Tables}
-use Rattle.asm_front.specs.Ending.{Flags, framed}
+use Rattle.asm_front.specs.Synthesis.{Synthesis}
+use Rattle.asm_front.specs.Ending.{Flags, framed, with_made}
 use Rattle.asm_front.specs.declared.ending.NotedObject.{NotedObject}
 use Rattle.asm_front.specs.ReadsBack.{file_place, final_value, has_no_bits, jump_value, LeadsToLabel, JumpReadsAt, JumpReadsBack, JumpsReadBack}
 use Rattle.asm_front.proofs.FramedSections.{TableFacts, is_framed, jump_stays}
-use Rattle.asm_front.proofs.FramedSymbols.{labels_framed, symbols_framed, forms_framed}
+use Rattle.asm_front.proofs.FramedSymbols.{AreCovered, covered_stand, labels_framed, symbols_framed, forms_framed}
 use Rattle.asm_front.proofs.PlacedFacts.{PlaceFacts}
 use Rattle.asm_front.proofs.StatementSplits.{all_split}
 use Rattle.asm_front.proofs.HeldFields.{field_held}
@@ -258,11 +259,11 @@ leads_to_label facts symbols laid pos text forms placed symbol number address ta
 
 -- a direct jump among statements that are placed reads back as it in the object of their layout
 pub jump_reads_back : AreSettled → ReadsOneWay → TableFacts → PlaceFacts → JumpFacts → (no_warn : Bool) (front : List TokenStatement) (s : TokenStatement) (later : List TokenStatement)
-    (text : InsnText) (condition : Option Condition) (placed whole : Placed) (tables : Tables) (laid : LaidSections) (object : List ℕ)
-    → place_all front (nothing_placed no_warn) ≡ Ok placed → place_all (front ++ s ∷ later) (nothing_placed no_warn) ≡ Ok whole
-    → framed whole ≡ Ok tables → layout_of tables.symbols tables.sections ≡ Ok laid → object ≡ image_of tables.symbols laid
+    (text : InsnText) (condition : Option Condition) (placed whole : Placed) (made : Option Synthesis) (tables : Tables) (laid : LaidSections) (object : List ℕ)
+    → AreCovered made whole → place_all front (nothing_placed no_warn) ≡ Ok placed → place_all (front ++ s ∷ later) (nothing_placed no_warn) ≡ Ok whole
+    → framed (with_made made whole) ≡ Ok tables → layout_of tables.symbols tables.sections ≡ Ok laid → object ≡ image_of tables.symbols laid
     → insn_in placed.syntax s ≡ Some text → jump_in text ≡ Some condition → has_no_bits laid placed.current ≡ false → JumpReadsBack object tables.symbols laid s text placed
-jump_reads_back settled one_way table placing facts no_warn front s later text condition placed whole tables laid object front_is all framed_is is same written jump filed =
+jump_reads_back settled one_way table placing facts no_warn front s later text condition placed whole made tables laid object covered front_is all framed_is is same written jump filed =
     let empty = nothing_placed no_warn in
     let begins = placing.begins no_warn in
     let there = facts.placed front s later empty placed whole text condition begins front_is all written jump in
@@ -274,7 +275,7 @@ jump_reads_back settled one_way table placing facts no_warn front s later text c
     let offset = next_offset placed in
     let field = jump_field pos text (jump_form there.jump.forms) placed in
     let within = placing.within (front ++ s ∷ later) empty whole all begins in
-    let with_table = is_framed table whole tables within framed_is in
+    let with_table = is_framed table (with_made made whole) tables within framed_is in
     let stands = jump_stays whole.sections sections n item offset pos condition field with_table.grows there.stands in
     let takes : (stands.section.kind == 8) ≡ false =
     sym (ap (λ found. option_map_or (λ (kept : SectionOf LaidItem). kept.kind == no_bits) found false)
@@ -290,7 +291,7 @@ jump_reads_back settled one_way table placing facts no_warn front s later text c
     let places = facts.places (front ++ s ∷ later) empty whole all (facts.starts no_warn) in
     let rest = sym (ap (λ r. r >>= place_all (s ∷ later)) front_is) ∙ (sym (all_split front (s ∷ later) empty) ∙ all) in
     let named = facts.named s later placed whole text (facts.places front empty placed front_is (facts.starts no_warn)) there.jump rest written in
-    let labels = labels_framed table whole tables within places framed_is in
+    let labels = labels_framed table (with_made made whole) tables within (covered_stand made whole covered) framed_is in
     let last = length whole.table.symbols.symbols in
     let stand = symbols_framed whole.sections sections whole.table.symbols symbols with_table.grows places.symbols labels in
     let own = names_own_place facts.adds sections symbols last there.jump.forms.displacement stand (facts.few (front ++ s ∷ later) no_warn whole all)
@@ -309,9 +310,9 @@ jump_reads_back settled one_way table placing facts no_warn front s later text c
 
 -- each direct jump that is handed out reads back as it
 pub jumps_read_back : AreSettled → ReadsOneWay → TableFacts → PlaceFacts → JumpFacts → (flags : Flags) (handed : List TokenStatement) (made : NotedObject)
-    (e : Makes flags handed made)
+    (e : Makes flags handed made) → AreCovered flags.scfi e.whole
     → JumpsReadBack flags handed made.object (origin flags handed made e).tables.symbols (origin flags handed made e).laid
-jumps_read_back settled one_way table placing facts flags handed made e s text condition placed reached written jump filed =
+jumps_read_back settled one_way table placing facts flags handed made e covered s text condition placed reached written jump filed =
     let from = origin flags handed made e in
-    jump_reads_back settled one_way table placing facts flags.no_warn reached.before s reached.after text condition placed from.whole from.tables from.laid made.object
-    reached.places (all_placed flags handed made e s placed reached) from.frames from.settles from.image written jump filed
+    jump_reads_back settled one_way table placing facts flags.no_warn reached.before s reached.after text condition placed from.whole flags.scfi from.tables from.laid made.object
+    covered reached.places (all_placed flags handed made e s placed reached) from.frames from.settles from.image written jump filed

@@ -26,7 +26,15 @@ mod PlacedFacts
 mod FramedSymbols
 mod SmallSections
 mod JumpsInObject
+mod OpsInItems
+mod PlacesInOrder
+mod FrameAnswers
+mod OrderedStates
+mod SynthesizedFrames
+mod OneSynthesis
 mod FramesInObject
 mod CodesInObject
 mod HandedStatements
+mod SynthesizedEnds
+mod AnswersMade
 mod StartedFiles

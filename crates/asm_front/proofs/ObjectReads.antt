@@ -30,7 +30,7 @@ use Rattle.elf_object.specs.Faults.{object_fault}
 use Rattle.elf_object.specs.Image.{image_of}
 use Rattle.elf_file.specs.Places.{PieceAt}
 use Rattle.elf_object.specs.Places.{IsFiled, IsBetween}
-use Rattle.asm_front.specs.Ending.{Flags, first_warning, warned_end, made_end, laid_end, noted, unclosed, first_line, framed, framed_end, unless_open, finished}
+use Rattle.asm_front.specs.Ending.{Flags, first_warning, warned_end, made_end, laid_end, noted, unclosed, first_line, framed, framed_end, unless_open, finished, procedures_by, with_made}
 use Rattle.asm_front.specs.declared.ending.Ended.{Ended}
 use Rattle.asm_front.specs.declared.ending.NotedObject.{NotedObject}
 use Rattle.asm_front.specs.ReadsBack.{Origin, IsReached, AreReached, ReadsAt, file_place, BareReadBack}
@@ -129,27 +129,28 @@ pub record IsFinished (whole : Placed) (object : List ℕ) : Type 0 where
   pub settles : layout_of tables.symbols tables.sections ≡ Ok laid
   pub image : object ≡ image_of tables.symbols laid
 
-finished_is : (fatal : Bool) (whole : Placed) (made : NotedObject) → finished fatal whole.sections whole.table whole.procedures whole.notes ≡ Ok made → IsFinished whole made.object
+finished_is : (fatal : Bool) (whole : Placed) (notes : List Noted) (made : NotedObject) → finished fatal whole.sections whole.table whole.procedures notes ≡ Ok made → IsFinished whole made.object
 unfolding finished
-finished_is fatal whole made e =
+finished_is fatal whole notes made e =
     let pos = first_line (frames_of whole.procedures) in
-    let closed : framed_end fatal whole.table pos whole.notes (framed whole) ≡ Ok made =
-    unless_open_is (unclosed whole.procedures) whole.notes (framed_end fatal whole.table pos whole.notes (framed whole)) made e in
-    let table = tables_are fatal whole.table pos whole.notes (framed whole) made closed in
+    let closed : framed_end fatal whole.table pos notes (framed whole) ≡ Ok made =
+    unless_open_is (unclosed whole.procedures) notes (framed_end fatal whole.table pos notes (framed whole)) made e in
+    let table = tables_are fatal whole.table pos notes (framed whole) made closed in
     let answer = layout_of table.0.symbols table.0.sections in
     let full = with_map whole.table table.0.symbols in
-    let laid = laid_is fatal full whole.notes answer made.object (noted_is whole.notes (laid_end fatal full whole.notes answer) made table.2) in
+    let laid = laid_is fatal full notes answer made.object (noted_is notes (laid_end fatal full notes answer) made table.2) in
     record { tables = table.0; frames = table.1; laid = laid.0; settles = laid.1; image = laid.2 }
 
 -- the statements that are handed out are all placed, and what they place has this object, with these notes
 pub record Makes (flags : Flags) (handed : List TokenStatement) (made : NotedObject) : Type 0 where
   pub whole : Placed
+  pub notes : List Noted
   pub places : place_all handed (nothing_placed flags.no_warn) ≡ Ok whole
-  pub ends : finished flags.fatal_warnings whole.sections whole.table whole.procedures whole.notes ≡ Ok made
+  pub ends : finished flags.fatal_warnings whole.sections whole.table (procedures_by flags.scfi whole.procedures) notes ≡ Ok made
 
 module _ (flags : Flags) (handed : List TokenStatement) (made : NotedObject) (makes : Makes flags handed made) where
-  pub end : IsFinished makes.whole made.object
-  end = finished_is flags.fatal_warnings makes.whole made makes.ends
+  pub end : IsFinished (with_made flags.scfi makes.whole) made.object
+  end = finished_is flags.fatal_warnings (with_made flags.scfi makes.whole) makes.notes made makes.ends
 
   abbrev pub origin : Origin flags handed made.object
   origin = record { whole = makes.whole; tables = end.tables; laid = end.laid; places = makes.places; frames = end.frames; settles = end.settles; image = end.image }
@@ -186,7 +187,7 @@ bare_read_back settled one_way read table facts flags handed made e s coded plac
     let laid = from.laid in
     let all = all_placed flags handed made e s placed reached in
     let stands = facts.bare_stands before s after empty placed whole coded begins reached.places all written in
-    let grows = (is_framed table whole tables (facts.within (before ++ s ∷ after) empty whole all begins) from.frames).grows in
+    let grows = (is_framed table (with_made flags.scfi whole) tables (facts.within (before ++ s ∷ after) empty whole all begins) from.frames).grows in
     let holds = bytes_stay whole.sections tables.sections placed.current (next_item placed) (next_offset placed) coded.bytes grows stands in
     let symbols = tables.symbols in
     let at = file_place symbols laid placed.current (next_item placed) (next_offset placed) in

@@ -31,9 +31,9 @@ use Rattle.asm_macro.specs.Expansion as list
 use Rattle.asm_macro.specs.Expansion.{MacroAs, State, Turn, with_made, with_read, with_body, enter, go_on, search_branch, conditional_by, conditional, passed_over, branch_end_by, branch_end, conditional_end_by, conditional_end, repeat_copies, repeat, each_copies, each, is_called, without, add_macro, define, call, forget, purge, after_call, exit_by, exit, is_inner_part, is_file_part, start_file, include_file, include, rewritten, macro_named, behind_own_labels, head_by, head, close_by, turn_level, turn_levels, turn, under, started, most_given}
 use Rattle.asm_macro.specs.Placing.{Step, goes, ended, fails, refused, misses, untold, with_placed, placed_by_turn, and_then, step, steps, expansion, most_turns}
 use Rattle.asm_place.specs.declared.place_faults.FaultAt.{FaultAt}
-use Rattle.asm_values.specs.State.{Placed, nothing_placed}
-use Rattle.asm_front.specs.Assembly.{placed_after, expansion_of, main_file}
-use Rattle.asm_front.specs.Knowing.{told_by}
+use Rattle.asm_functions.specs.Followed.{Followed}
+use Rattle.asm_front.specs.Assembly.{placed_after, told_of, nothing_yet, expansion_of, main_file}
+use Rattle.asm_front.specs.Ending.{Flags}
 
 -- the turn does not end at a file of which nothing is told
 abbrev is_told : Turn → Bool
@@ -217,15 +217,15 @@ module _ (contents : Contents) where
   of_turn known state = of_levels known state.levels state
 
   -- the same of what comes of a list
-  abbrev is_told_step : Step Placed FaultAt → Bool
+  abbrev is_told_step : Step Followed FaultAt → Bool
   is_told_step untold = false
   is_told_step _ = true
 
-  of_placed : (state : State) (result : Result Placed FaultAt) → is_told_step (with_placed state result) ≡ true
+  of_placed : (state : State) (result : Result Followed FaultAt) → is_told_step (with_placed state result) ≡ true
   of_placed state (Ok placer) = refl
   of_placed state (Err fault) = refl
 
-  of_step : (files : List (List ℕ)) (placer : Placed) (turn : Turn) → Told turn → is_told_step (placed_by_turn placed_after files placer turn) ≡ true
+  of_step : (files : List (List ℕ)) (placer : Followed) (turn : Turn) → Told turn → is_told_step (placed_by_turn placed_after files placer turn) ≡ true
   of_step files placer (list.hands statement state) p = of_placed state (placed_after placer statement)
   of_step files placer (list.goes state) p = refl
   of_step files placer list.ended p = refl
@@ -234,8 +234,8 @@ module _ (contents : Contents) where
   of_step files placer (list.misses name) p = refl
   of_step files placer list.untold p = absurd (false≢true p.is)
 
-  behind : (more : State → Placed → Step Placed FaultAt) → ((state : State) (placer : Placed) → is_told_step (more state placer) ≡ true)
-      → (now : Step Placed FaultAt) → is_told_step now ≡ true → is_told_step (and_then more now) ≡ true
+  behind : (more : State → Followed → Step Followed FaultAt) → ((state : State) (placer : Followed) → is_told_step (more state placer) ≡ true)
+      → (now : Step Followed FaultAt) → is_told_step now ≡ true → is_told_step (and_then more now) ≡ true
   behind more all (goes state placer) p = all state placer
   behind more all (ended files placer) p = refl
   behind more all (fails files cause pos placer) p = refl
@@ -243,23 +243,23 @@ module _ (contents : Contents) where
   behind more all (misses files) p = refl
   behind more all untold p = absurd (false≢true p)
 
-  of_steps : (known : Placed → Knowledge) (n : ℕ) (state : State) (placer : Placed) → is_told_step (steps placed_after known (Some contents) n state placer) ≡ true
+  of_steps : (known : Followed → Knowledge) (n : ℕ) (state : State) (placer : Followed) → is_told_step (steps placed_after known (Some contents) n state placer) ≡ true
   unfolding steps
   of_steps known zero state placer = refl
   of_steps known (suc n) state placer =
       behind (steps placed_after known (Some contents) n) (of_steps known n) (step placed_after known (Some contents) state placer)
       (of_step state.files placer (turn (known placer) (Some contents) state) (of_turn (known placer) state))
 
-  of_lines : (no_warn : Bool) (name : List ℕ) (lines : Result (List StatementAt) LineCause)
-      → is_told_step (expansion placed_after told_by (Some contents) (name ∷ []) (nothing_placed no_warn) lines) ≡ true
+  of_lines : (flags : Flags) (name : List ℕ) (lines : Result (List StatementAt) LineCause)
+      → is_told_step (expansion placed_after told_of (Some contents) (name ∷ []) (nothing_yet flags) lines) ≡ true
   unfolding expansion
-  of_lines no_warn name (Ok statements) = of_steps told_by most_turns (started (name ∷ []) (map in_tokens statements)) (nothing_placed no_warn)
-  of_lines no_warn name (Err cause) = refl
+  of_lines flags name (Ok statements) = of_steps told_of most_turns (started (name ∷ []) (map in_tokens statements)) (nothing_yet flags)
+  of_lines flags name (Err cause) = refl
 
   -- nothing is untold of a source
-  pub none_untold : (no_warn : Bool) (name source : List ℕ) → expansion_of no_warn (Some contents) name source ≡ untold → ⊥
+  pub none_untold : (flags : Flags) (name source : List ℕ) → expansion_of flags (Some contents) name source ≡ untold → ⊥
   unfolding expansion_of
-  none_untold no_warn name source is = false≢true (sym (ap is_told_step is) ∙ of_lines no_warn name (statements_of main_file source))
+  none_untold flags name source is = false≢true (sym (ap is_told_step is) ∙ of_lines flags name (statements_of main_file source))
 
-pub never_untold : (no_warn : Bool) (contents : Contents) (name source : List ℕ) → expansion_of no_warn (Some contents) name source ≡ untold → ⊥
-never_untold no_warn contents name source is = none_untold contents no_warn name source is
+pub never_untold : (flags : Flags) (contents : Contents) (name source : List ℕ) → expansion_of flags (Some contents) name source ≡ untold → ⊥
+never_untold flags contents name source is = none_untold contents flags name source is

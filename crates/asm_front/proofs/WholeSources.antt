@@ -20,24 +20,24 @@ use Rattle.asm_front.proofs.AnswerLemmas.{answered}
 
 -- a source that is not too large is assembled by its text
 small_source : (flags : Flags) (contents : Contents) (name source : List ℕ) → length source ≤ most_bytes
-    → assembly_by flags.fatal_warnings name (expansion_of flags.no_warn (Some contents) name source) ≡ assembly_of flags contents name source
+    → assembly_by flags name (expansion_of flags (Some contents) name source) ≡ assembly_of flags contents name source
 unfolding assembly_of
 small_source flags contents name source few =
     let test : nat_lt most_bytes (length source) ≡ false = grind (arith, nat_tests) in
-    ap (λ b. cond b (faulty (too_large main_file) (shown_files name [])) (assembly_by flags.fatal_warnings name (expansion_of flags.no_warn (Some contents) name source))) (sym test)
+    ap (λ b. cond b (faulty (too_large main_file) (shown_files name [])) (assembly_by flags name (expansion_of flags (Some contents) name source))) (sym test)
 
 large_source : (flags : Flags) (contents : Contents) (name source : List ℕ) → most_bytes < length source
     → assembly_of flags contents name source ≡ faulty (too_large main_file) (shown_files name [])
 unfolding assembly_of
 large_source flags contents name source much =
     let test : nat_lt most_bytes (length source) ≡ true = grind (arith, nat_tests) in
-    ap (λ b. cond b (faulty (too_large main_file) (shown_files name [])) (assembly_by flags.fatal_warnings name (expansion_of flags.no_warn (Some contents) name source))) test
+    ap (λ b. cond b (faulty (too_large main_file) (shown_files name [])) (assembly_by flags name (expansion_of flags (Some contents) name source))) test
 
 -- the text that was read whole is that of the file
 pub text_of_file : (flags : Flags) (contents : Contents) (name text bytes : List ℕ) → text ≡ bytes → length bytes ≤ most_bytes
-    → assembly_by flags.fatal_warnings name (expansion_of flags.no_warn (Some contents) name text) ≡ assembly_of flags contents name bytes
+    → assembly_by flags name (expansion_of flags (Some contents) name text) ≡ assembly_of flags contents name bytes
 text_of_file flags contents name text bytes same few =
-    ap (λ t. assembly_by flags.fatal_warnings name (expansion_of flags.no_warn (Some contents) name t)) same ∙ small_source flags contents name bytes few
+    ap (λ t. assembly_by flags name (expansion_of flags (Some contents) name t)) same ∙ small_source flags contents name bytes few
 
 file_read : (flags : Flags) (contents : Contents) (name : List ℕ) (file : Option (List ℕ)) (text : List ℕ) (rest : Option (List ℕ)) (result : Result Assembled AsmFault)
     → ReadsFile file (Ok text) rest → AssemblesText flags (Some contents) name text result → AssemblesFile flags contents name file result

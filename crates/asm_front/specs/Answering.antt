@@ -1,5 +1,5 @@
 -- The answer of a call of `assemble`, by what expansion answered.
-use Rattle.std.specs.Prelude.{◌≡◌, ◌≤◌, ◌+◌, ◌*◌, Bool, false, List, [], ◌∷◌, drop, length, ℕ, Option, None, Some, Result, Ok, Err}
+use Rattle.std.specs.Prelude.{◌≡◌, ◌≤◌, ◌+◌, ◌*◌, Bool, false, List, [], ◌∷◌, drop, length, ℕ, Option, None, Some, Result, Ok, Err, string_bytes}
 use Rattle.asm_base.specs.History.{FileEvent, happened, whole_files}
 use Rattle.asm_base.specs.Inputs.{Contents}
 use Rattle.asm_base.specs.WholeFile.{most_bytes}
@@ -14,10 +14,13 @@ use Rattle.asm_macro.specs.declared.faults.ExpandFault.{ExpandFault}
 use Rattle.asm_macro.specs.declared.faults.ExpandFault.TheVariants as expand
 use Rattle.asm_macro.specs.Placing.{Step, ended, fails, refused, untold}
 use Rattle.asm_macro.specs.Starts.{IsFront, ReadsFront}
-use Rattle.asm_values.specs.State.{Placed, nothing_placed}
+use Rattle.asm_functions.specs.Followed.{Followed}
 use Rattle.asm_front.specs.Ending.{Flags}
-use Rattle.asm_front.specs.Assembly.{Assembly, assembled, faulty, macro_fault, included_by, assembly_by, expansion_of, main_file}
-use Rattle.asm_front.specs.Outcome.{AssemblesAs, CountsMissed}
+use Rattle.asm_front.specs.Assembly.{Assembly, assembled, faulty, macro_fault, included_by, assembly_by, nothing_yet, expansion_of, main_file, StepIsMade, IsMade}
+use Rattle.asm_front.specs.Outcome.{Assembles, AssemblesAs, CountsMissed, WithSynthesis, flags_of}
+use Rattle.asm_front.specs.ReadsBack.{ReadsBackFrom}
+use Rattle.asm_front.specs.Fitting.{AnswerFits, TextFits, SourceIsReadable}
+use Rattle.asm_front.specs.declared.answers.Options.{Options}
 use Rattle.asm_front.specs.declared.answers.Assembled.{Assembled}
 use Rattle.asm_front.specs.declared.answers.AsmFault.{AsmFault}
 use Rattle.asm_front.specs.declared.answers.AsmFault.TheVariants.{Source, Read, NoMemory}
@@ -31,20 +34,19 @@ IsAnswered assembly (Err NoMemory) = Unit {0}
 
 -- what came of a source of this name, with what is placed and the files that were started then; a fault of the lines of the source comes
 -- before all statements
-abbrev pub came_of : Bool → List ℕ → List (List ℕ) → Placed → Result (Unit {0}) (ExpandFault FaultAt) → Step Placed FaultAt
-came_of no_warn name files placed (Ok u) = ended files placed
-came_of no_warn name files placed (Err (expand.Lines cause)) =
-    fails (name ∷ []) (line_cause cause) (pos_at main_file (line_of_cause cause)) (nothing_placed no_warn)
-came_of no_warn name files placed (Err (expand.Expansion cause pos)) = fails files cause pos placed
-came_of no_warn name files placed (Err (expand.Placing fault)) = refused files fault
-came_of no_warn name files placed (Err expand.Read) = untold
-came_of no_warn name files placed (Err expand.NoMemory) = untold
+abbrev pub came_of : Flags → List ℕ → List (List ℕ) → Followed → Result (Unit {0}) (ExpandFault FaultAt) → Step Followed FaultAt
+came_of flags name files f (Ok u) = ended files f
+came_of flags name files f (Err (expand.Lines cause)) =
+    fails (name ∷ []) (line_cause cause) (pos_at main_file (line_of_cause cause)) (nothing_yet flags)
+came_of flags name files f (Err (expand.Expansion cause pos)) = fails files cause pos f
+came_of flags name files f (Err (expand.Placing fault)) = refused files fault
+came_of flags name files f (Err expand.Read) = untold
+came_of flags name files f (Err expand.NoMemory) = untold
 
 -- the answer by what came of the source: a fault of the input is handed on
-abbrev pub IsAnswer : Flags → List ℕ → List (List ℕ) → Placed → Result (Unit {0}) (ExpandFault FaultAt) → Result Assembled AsmFault → Type 0
-IsAnswer flags name files placed (Err expand.Read) result = result ≡ Err Read
-IsAnswer flags name files placed expanded result =
-    IsAnswered (assembly_by flags.fatal_warnings name (came_of flags.no_warn name files placed expanded)) result
+abbrev pub IsAnswer : Flags → List ℕ → List (List ℕ) → Followed → Result (Unit {0}) (ExpandFault FaultAt) → Result Assembled AsmFault → Type 0
+IsAnswer flags name files f (Err expand.Read) result = result ≡ Err Read
+IsAnswer flags name files f expanded result = IsAnswered (assembly_by flags name (came_of flags name files f expanded)) result
 
 -- the fault of the source that a fault of its lines is
 abbrev pub line_answer : LineCause → FaultAt
@@ -59,13 +61,13 @@ AnswersSmall expanded result = Unit {0}
 abbrev pub AssemblesText : Flags → Option Contents → List ℕ → List ℕ → Result Assembled AsmFault → Type 0
 AssemblesText flags None name text result = Unit {0}
 AssemblesText flags (Some contents) name text result =
-    AssemblesAs (assembly_by flags.fatal_warnings name (expansion_of flags.no_warn (Some contents) name text)) result
+    AssemblesAs (assembly_by flags name (expansion_of flags (Some contents) name text)) result
 
 -- the count of starts of what has no contents, where they are told
 abbrev pub CountsText : Flags → Option Contents → List ℕ → List ℕ → ℕ → ℕ → Type 0
 CountsText flags None name text before now = before ≤ now
 CountsText flags (Some contents) name text before now =
-    CountsMissed (assembly_by flags.fatal_warnings name (expansion_of flags.no_warn (Some contents) name text)) before now
+    CountsMissed (assembly_by flags name (expansion_of flags (Some contents) name text)) before now
 
 -- where there is an object, the files that the text started were read to their end
 abbrev pub ReadsText : Result Assembled AsmFault → Option (List FileEvent) → Option (List FileEvent) → Type 0
@@ -76,7 +78,7 @@ ReadsText (Err fault) before now = Unit {0}
 abbrev pub StartsTexts : Flags → Option Contents → List ℕ → List ℕ → List (List ℕ) → Type 0
 StartsTexts flags None name text these = Unit {0}
 StartsTexts flags (Some contents) name text these =
-    IsFront these (included_by (assembly_by flags.fatal_warnings name (expansion_of flags.no_warn (Some contents) name text)))
+    IsFront these (included_by (assembly_by flags name (expansion_of flags (Some contents) name text)))
 
 -- on every answer, the first of the files that the text starts were read one after the other, the last of them perhaps in part
 pub record StartsIncluded (flags : Flags) (contents : Option Contents) (name text : List ℕ) (before now : Option (List FileEvent)) (taken taken_after : ℕ) : Type 0 where
@@ -90,3 +92,44 @@ TakesText (Ok made) before now = (before ≤ now) × (now ≤ before + (most_byt
 TakesText (Err (Source fault pos notes files)) before now = (before ≤ now) × (now ≤ before + (most_bytes + 1) * length files)
 TakesText (Err Read) before now = before ≤ now
 TakesText (Err NoMemory) before now = before ≤ now
+
+-- WITH WHAT SYNTHESIS COMES TO
+
+-- where contents are told, this is what the functions of a text come to, if they are followed
+abbrev pub TextIsMade : Flags → Option Contents → List ℕ → List ℕ → Type 0
+TextIsMade flags None name text = Unit {0}
+TextIsMade flags (Some contents) name text = StepIsMade flags.scfi (expansion_of flags (Some contents) name text)
+
+-- the answer is that for what came of the source, and the numbers of its object fit
+pub record IsFitAnswer (flags : Flags) (name : List ℕ) (files : List (List ℕ)) (f : Followed) (expanded : Result (Unit {0}) (ExpandFault FaultAt)) (result : Result Assembled AsmFault) : Type 0 where
+  pub answer : IsAnswer flags name files f expanded result
+  pub numbers : AnswerFits flags expanded f result
+
+-- the answer for the source with these options
+abbrev pub AnswersSource : Options → List (List ℕ) → Followed → Result (Unit {0}) (ExpandFault FaultAt) → Result Assembled AsmFault → Type 0
+AnswersSource options files f expanded result =
+    WithSynthesis result (λ made. StepIsMade (flags_of options made).scfi (came_of (flags_of options made) (string_bytes options.file) files f expanded))
+    (λ made. IsFitAnswer (flags_of options made) (string_bytes options.file) files f expanded result)
+
+-- the answer is that for the text, and the numbers of its object fit
+pub record IsFitText (flags : Flags) (contents : Option Contents) (name text : List ℕ) (result : Result Assembled AsmFault) : Type 0 where
+  pub outcome : AssemblesText flags contents name text result
+  pub numbers : TextFits flags contents name text result
+
+-- the answer for a text with these options
+abbrev pub AnswersText : Options → Option Contents → List ℕ → Result Assembled AsmFault → Type 0
+AnswersText options contents text result =
+    WithSynthesis result (λ made. TextIsMade (flags_of options made) contents (string_bytes options.file) text)
+    (λ made. IsFitText (flags_of options made) contents (string_bytes options.file) text result)
+
+-- the answer is that for the file of the name, its object reads back, and a reader finds the sections of that
+pub record IsAssembled (flags : Flags) (contents : Option Contents) (name : List ℕ) (result : Result Assembled AsmFault) : Type 0 where
+  pub outcome : Assembles flags contents name result
+  pub reads_back : ReadsBackFrom flags contents name result
+  pub readable : SourceIsReadable flags contents name result
+
+-- the answer for the options' file
+abbrev pub AnswersFile : Options → Option Contents → Result Assembled AsmFault → Type 0
+AnswersFile options contents result =
+    WithSynthesis result (λ made. IsMade (flags_of options made) contents (string_bytes options.file))
+    (λ made. IsAssembled (flags_of options made) contents (string_bytes options.file) result)

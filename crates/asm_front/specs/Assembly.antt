@@ -1,6 +1,6 @@
 -- What a source stands for with the files that it starts: its object, or its first fault and where that stands, with the notes that are
 -- made before.
-use Rattle.std.specs.Prelude.{ℕ, Bool, List, [], ◌∷◌, drop, length, map, nat_lt, codes, if◌then◌else◌, Option, Some, Result, Ok, Err}
+use Rattle.std.specs.Prelude.{ℕ, ◌≤◌, Bool, List, [], ◌∷◌, drop, length, map, nat_lt, codes, is_some, if◌then◌else◌, Option, None, Some, Result, Ok, Err}
 use Rattle.asm_base.specs.Inputs.{Contents}
 use Rattle.asm_base.specs.declared.faults.StatementFault.{StatementFault}
 use Rattle.asm_base.specs.declared.faults.StatementFault.TheVariants as statement
@@ -13,11 +13,13 @@ use Rattle.macro_words.specs.declared.causes.MacroCause.{MacroCause}
 use Rattle.macro_words.specs.declared.causes.MacroCause.TheVariants as macros
 use Rattle.asm_macro.specs.Expansion.{started}
 use Rattle.asm_macro.specs.Placing.{Step, goes, ended, fails, refused, misses, untold, expansion, handed, most_turns}
-use Rattle.asm_values.specs.State.{Placed, nothing_placed}
-use Rattle.asm_place.specs.Sources.{pos_at, fault_at, place}
+use Rattle.macro_words.specs.Conditions.{Knowledge}
+use Rattle.asm_functions.specs.Followed.{Followed, nothing_followed, place_followed, placed_part, notes_of}
+use Rattle.asm_place.specs.Sources.{pos_at, fault_at}
 use Rattle.asm_place.specs.declared.place_faults.FaultAt.{FaultAt}
-use Rattle.asm_front.specs.Ending.{Flags, finished}
+use Rattle.asm_front.specs.Ending.{Flags, followed_end}
 use Rattle.asm_front.specs.Knowing.{told_by}
+use Rattle.asm_front.specs.Synthesis.{Synthesis, IsMadeAt}
 use Rattle.asm_front.specs.declared.ending.NotedObject.{NotedObject}
 
 -- what a source stands for: its object with the notes, or its first fault, or neither, where it starts a file that is not there; with the names
@@ -66,9 +68,21 @@ macro_fault macros.BadFileName = statement.BadFileName
 abbrev pub too_large : ℕ → FaultAt
 too_large file = fault_at (Statement statement.FileTooLarge) (pos_at file 1) []
 
+-- functions are followed where their frame tables are to be worked out
+abbrev pub is_asked : Flags → Bool
+is_asked flags = is_some flags.scfi
+
+-- nothing is placed yet
+abbrev pub nothing_yet : Flags → Followed
+nothing_yet flags = nothing_followed flags.no_warn (is_asked flags)
+
 -- what comes of placing one statement that is handed out
-abbrev pub placed_after : Placed → TokenStatement → Result Placed FaultAt
-placed_after before statement = place statement before
+abbrev pub placed_after : Followed → TokenStatement → Result Followed FaultAt
+placed_after before statement = place_followed statement before
+
+-- what counts and conditions know there
+abbrev pub told_of : Followed → Knowledge
+told_of f = told_by f.placed
 
 -- the object of all that was placed, or the fault at the end
 abbrev pub ended_by : List (List ℕ) → Result NotedObject FaultAt → Assembly
@@ -77,14 +91,13 @@ ended_by files (Err fault) = faulty fault files
 
 -- what a source of this name stands for, by what comes of its statements: a fault of expansion has the notes that were made before. Each
 -- list comes to its outcome, and none is untold where contents are told
-abbrev pub assembly_by : Bool → List ℕ → Step Placed FaultAt → Assembly
-assembly_by fatal name (ended files whole) = ended_by (shown_files name files) (finished fatal whole.sections whole.table whole.procedures whole.notes)
-assembly_by fatal name (fails files cause pos placed) =
-    faulty (fault_at (Statement (macro_fault cause)) pos placed.notes) (shown_files name files)
-assembly_by fatal name (refused files fault) = faulty fault (shown_files name files)
-assembly_by fatal name (misses files) = missing (shown_files name files)
-assembly_by fatal name untold = missing []
-assembly_by fatal name (goes state placed) = missing (shown_files name state.files)
+abbrev pub assembly_by : Flags → List ℕ → Step Followed FaultAt → Assembly
+assembly_by flags name (ended files f) = ended_by (shown_files name files) (followed_end flags f)
+assembly_by flags name (fails files cause pos f) = faulty (fault_at (Statement (macro_fault cause)) pos (notes_of f)) (shown_files name files)
+assembly_by flags name (refused files fault) = faulty fault (shown_files name files)
+assembly_by flags name (misses files) = missing (shown_files name files)
+assembly_by flags name untold = missing []
+assembly_by flags name (goes state f) = missing (shown_files name state.files)
 
 -- the names of the files that a source of this assembly starts, without its own
 abbrev pub included_by : Assembly → List (List ℕ)
@@ -93,22 +106,43 @@ included_by (faulty fault files) = drop 1 files
 included_by (missing files) = drop 1 files
 
 -- what comes of the statements of a source of this name, where contents are told or not
-unfoldable pub expansion_of : Bool → Option Contents → List ℕ → List ℕ → Step Placed FaultAt
-expansion_of no_warn contents name source =
-    expansion placed_after told_by contents (name ∷ []) (nothing_placed no_warn) (statements_of main_file source)
+unfoldable pub expansion_of : Flags → Option Contents → List ℕ → List ℕ → Step Followed FaultAt
+expansion_of flags contents name source =
+    expansion placed_after told_of contents (name ∷ []) (nothing_yet flags) (statements_of main_file source)
 
 -- the object of a source of this name, or its first fault
 unfoldable pub assembly_of : Flags → Contents → List ℕ → List ℕ → Assembly
 assembly_of flags contents name source =
     if nat_lt most_bytes (length source) then faulty (too_large main_file) (shown_files name [])
-    else assembly_by flags.fatal_warnings name (expansion_of flags.no_warn (Some contents) name source)
+    else assembly_by flags name (expansion_of flags (Some contents) name source)
 
 -- the statements that are handed out of these lines
-abbrev pub handed_by : Bool → Contents → List ℕ → Result (List StatementAt) LineCause → List TokenStatement
-handed_by no_warn contents name (Ok statements) =
-    handed placed_after told_by (Some contents) most_turns (started (name ∷ []) (map in_tokens statements)) (nothing_placed no_warn)
-handed_by no_warn contents name (Err cause) = []
+abbrev pub handed_by : Flags → Contents → List ℕ → Result (List StatementAt) LineCause → List TokenStatement
+handed_by flags contents name (Ok statements) =
+    handed placed_after told_of (Some contents) most_turns (started (name ∷ []) (map in_tokens statements)) (nothing_yet flags)
+handed_by flags contents name (Err cause) = []
 
--- the statements that the expansion of a source of this name hands out, in order
+-- the statements that the expansion of a source of this name hands out, in order; where functions are followed, without the directives of frame tables
 unfoldable pub handed_of : Flags → Contents → List ℕ → List ℕ → List TokenStatement
-handed_of flags contents name source = handed_by flags.no_warn contents name (statements_of main_file source)
+handed_of flags contents name source = map (placed_part (is_asked flags)) (handed_by flags contents name (statements_of main_file source))
+
+-- WHAT SYNTHESIS COMES TO
+
+-- where a list comes to its end, this is what the functions come to, if they are followed
+abbrev pub StepIsMade : Option Synthesis → Step Followed FaultAt → Type 0
+StepIsMade made (ended files f) = IsMadeAt made f
+StepIsMade made _ = Unit {0}
+
+-- the same of a source that is not too large
+abbrev pub SourceIsMade : Flags → Contents → List ℕ → List ℕ → Type 0
+SourceIsMade flags contents name source = length source ≤ most_bytes → StepIsMade flags.scfi (expansion_of flags (Some contents) name source)
+
+-- the same of the file of a name, if it is there
+abbrev pub FileIsMade : Flags → Contents → List ℕ → Option (List ℕ) → Type 0
+FileIsMade flags contents name None = Unit {0}
+FileIsMade flags contents name (Some source) = SourceIsMade flags contents name source
+
+-- the same for the contents of the name, where they are told
+abbrev pub IsMade : Flags → Option Contents → List ℕ → Type 0
+IsMade flags None name = Unit {0}
+IsMade flags (Some contents) name = FileIsMade flags contents name (contents name)

@@ -1,9 +1,10 @@
--- The end of a source: the frame table of its procedures, the layout of what was placed with it, and its object, or the first fault of these.
+-- The end of a source: the frame table of its procedures, or of its functions, the layout of what was placed with it, and its object, or the first
+-- fault of these.
 use Rattle.std.specs.Prelude.{ℕ, ◌-◌, ◌^◌, Bool, true, false, List, [], ◌∷◌, length, nat_lt, if◌then◌else◌, Option, None, Some, option_map, unwrap_or, slice_get, Result, Ok, Err}
 use Rattle.asm_base.specs.declared.faults.EndFault.{EndFault}
 use Rattle.asm_base.specs.declared.faults.EndFault.TheVariants as end
 use Rattle.asm_base.specs.declared.faults.Fault.{Fault}
-use Rattle.asm_base.specs.declared.faults.Fault.TheVariants.{End, Statement}
+use Rattle.asm_base.specs.declared.faults.Fault.TheVariants.{End, Scfi, Statement}
 use Rattle.asm_base.specs.declared.faults.StatementFault.TheVariants as statement
 use Rattle.asm_base.specs.declared.notes.Noted.{Noted}
 use Rattle.asm_base.specs.declared.positions.Pos.{Pos}
@@ -25,13 +26,16 @@ use Rattle.asm_frags.specs.Writing.{LooseSection}
 use Rattle.asm_values.specs.State.{Placed}
 use Rattle.asm_place.specs.Sources.{fault_at}
 use Rattle.asm_place.specs.declared.place_faults.FaultAt.{FaultAt}
+use Rattle.asm_functions.specs.Followed.{Followed, notes_of}
+use Rattle.asm_front.specs.Synthesis.{Synthesis}
 use Rattle.asm_front.specs.declared.ending.Ended.{Ended}
 use Rattle.asm_front.specs.declared.ending.NotedObject.{NotedObject}
 
--- the options that the assembly depends on
+-- the options that the assembly depends on; where frame tables are to be worked out, with what that comes to
 pub record Flags : Type 0 where
   pub no_warn : Bool
   pub fatal_warnings : Bool
+  pub scfi : Option Synthesis
 
 -- a fault that is found at the end of a source, and its place
 abbrev pub ended_at : EndFault → Pos → Ended
@@ -128,3 +132,27 @@ unfoldable pub finished : Bool → List LooseSection → Table → Procedures �
 finished fatal sections table procedures notes =
     unless_open (unclosed procedures) notes
     (framed_end fatal table (first_line (frames_of procedures)) notes (with_frames procedures table.symbols sections))
+
+-- FRAME TABLES THAT ARE WORKED OUT
+
+-- frames that were worked out stand in place of procedures, and none is open
+abbrev pub procedures_by : Option Synthesis → Procedures → Procedures
+procedures_by None procedures = procedures
+procedures_by (Some (Ok frames)) procedures = record { closed = frames; begun = None }
+procedures_by (Some (Err at)) procedures = procedures
+
+-- all that was placed, with these
+abbrev pub with_made : Option Synthesis → Placed → Placed
+with_made made placed = record placed { procedures = procedures_by made placed.procedures }
+
+-- unless synthesis has a fault
+abbrev pub unless_fault : Option Synthesis → List Noted → Result NotedObject FaultAt → Result NotedObject FaultAt
+unless_fault None notes answer = answer
+unless_fault (Some (Ok frames)) notes answer = answer
+unless_fault (Some (Err at)) notes answer = Err (fault_at (Scfi at.fault) at.pos notes)
+
+-- the object of all that was placed and followed, or the first fault at the end: those of functions come before all others
+abbrev pub followed_end : Flags → Followed → Result NotedObject FaultAt
+followed_end flags f =
+    unless_fault flags.scfi (notes_of f)
+    (finished flags.fatal_warnings f.placed.sections f.placed.table (procedures_by flags.scfi f.placed.procedures) (notes_of f))

@@ -1,7 +1,15 @@
 -- The numbers of the object that a source comes to fit their fields, and a reader finds its sections.
-use Rattle.std.specs.Prelude.{ℕ, List, Option, None, Some, Result, Ok, Err}
+use Rattle.std.specs.Prelude.{◌≡◌, ℕ, Bool, List, Option, None, Some, Result, Ok, Err, OnOk}
 use Rattle.asm_base.specs.Inputs.{Contents}
 use Rattle.asm_base.specs.declared.causes.FragCause.{FragCause}
+use Rattle.asm_base.specs.declared.notes.Noted.{Noted}
+use Rattle.asm_base.specs.declared.refusals.Refusal.{Refusal}
+use Rattle.asm_base.specs.declared.refusals.Refusal.TheVariants as refusal
+use Rattle.asm_frags.specs.Writing.{LooseSection}
+use Rattle.asm_uses.specs.Tables.{Table}
+use Rattle.cfi_directives.specs.Procedures.{no_procedures}
+use Rattle.code_functions.specs.declared.items.CodeItem.{CodeItem}
+use Rattle.code_functions.specs.Recorded.{Recorded}
 use Rattle.asm_lines.specs.NextStatements.{TokenStatement}
 use Rattle.asm_symbols.specs.SymbolMap.{SymbolMap}
 use Rattle.asm_relax.specs.declared.faults.LayoutFault.{LayoutFault}
@@ -14,12 +22,16 @@ use Rattle.object_laws.specs.SectionPlaces.{SectionsFound}
 use Rattle.asm_macro.specs.Placing.{Step, ended}
 use Rattle.asm_macro.specs.declared.faults.ExpandFault.{ExpandFault}
 use Rattle.asm_place.specs.declared.place_faults.FaultAt.{FaultAt}
-use Rattle.asm_values.specs.State.{Placed}
-use Rattle.asm_front.specs.Ending.{Flags, framed}
+use Rattle.asm_functions.specs.Followed.{Followed}
+use Rattle.asm_front.specs.Synthesis.{Synthesis, ComeTo, IsMadeAt}
+use Rattle.asm_front.specs.Ending.{Flags, with_frames, framed, finished, procedures_by, with_made, unless_fault, followed_end}
+use Rattle.asm_front.specs.Outcome.{flags_of}
 use Rattle.asm_front.specs.Assembly.{expansion_of, handed_of}
 use Rattle.asm_front.specs.ReadsBack.{Origin}
+use Rattle.asm_front.specs.declared.answers.Options.{Options}
 use Rattle.asm_front.specs.declared.answers.Assembled.{Assembled}
 use Rattle.asm_front.specs.declared.answers.AsmFault.{AsmFault}
+use Rattle.asm_front.specs.declared.ending.NotedObject.{NotedObject}
 
 -- THE PROGRAM'S OWN NUMBERS
 
@@ -34,20 +46,46 @@ TablesFit (Ok tables) = LayoutFits tables.symbols (layout_of tables.symbols tabl
 TablesFit (Err cause) = Unit {0}
 
 -- where the list came to its end and there is an object, so do those of what was placed
-abbrev pub AnswerFits : Result (Unit {0}) (ExpandFault FaultAt) → Placed → Result Assembled AsmFault → Type 0
-AnswerFits (Ok u) placed (Ok made) = TablesFit (framed placed)
-AnswerFits (Ok u) placed (Err fault) = Unit {0}
-AnswerFits (Err stop) placed result = Unit {0}
+abbrev pub AnswerFits : Flags → Result (Unit {0}) (ExpandFault FaultAt) → Followed → Result Assembled AsmFault → Type 0
+AnswerFits flags (Ok u) f (Ok made) = TablesFit (framed (with_made flags.scfi f.placed))
+AnswerFits flags (Ok u) f (Err fault) = Unit {0}
+AnswerFits flags (Err stop) f result = Unit {0}
+
+-- the object or the fault at the end, with the frame tables that are worked out of these functions, by what these come to; the numbers of an object fit
+pub record EndsWithFrames (fatal : Bool) (sections : List LooseSection) (table : Table) (functions : List (Recorded CodeItem)) (notes : List Noted) (answer : Result NotedObject FaultAt) : Type 0 where
+  pub made : Synthesis
+  pub comes : ComeTo table.symbols sections functions made
+  pub answers : unless_fault (Some made) notes (finished fatal sections table (procedures_by (Some made) no_procedures) notes) ≡ answer
+  pub fits : OnOk answer (TablesFit (with_frames (procedures_by (Some made) no_procedures) table.symbols sections))
+
+-- the call answers so
+abbrev pub AnswersWithFrames : Bool → List LooseSection → Table → List (Recorded CodeItem) → List Noted → Result NotedObject (Refusal FaultAt) → Type 0
+AnswersWithFrames fatal sections table functions notes (Ok made) = EndsWithFrames fatal sections table functions notes (Ok made)
+AnswersWithFrames fatal sections table functions notes (Err (refusal.Fault at)) = EndsWithFrames fatal sections table functions notes (Err at)
+AnswersWithFrames fatal sections table functions notes (Err refusal.NoMemory) = Unit {0}
+
+-- the object of all that was placed and followed, or the fault at the end, by what synthesis comes to
+pub record EndsFollowed (options : Options) (f : Followed) (answer : Result NotedObject FaultAt) : Type 0 where
+  pub made : Synthesis
+  pub comes : IsMadeAt (flags_of options made).scfi f
+  pub answers : followed_end (flags_of options made) f ≡ answer
+  pub fits : OnOk answer (TablesFit (framed (with_made (flags_of options made).scfi f.placed)))
+
+-- the call answers so
+abbrev pub AnswersFollowed : Options → Followed → Result NotedObject (Refusal FaultAt) → Type 0
+AnswersFollowed options f (Ok made) = EndsFollowed options f (Ok made)
+AnswersFollowed options f (Err (refusal.Fault at)) = EndsFollowed options f (Err at)
+AnswersFollowed options f (Err refusal.NoMemory) = Unit {0}
 
 -- where a list comes to its end, so do those of what it places
-abbrev pub StepFits : Step Placed FaultAt → Type 0
-StepFits (ended files whole) = TablesFit (framed whole)
-StepFits _ = Unit {0}
+abbrev pub StepFits : Flags → Step Followed FaultAt → Type 0
+StepFits flags (ended files f) = TablesFit (framed (with_made flags.scfi f.placed))
+StepFits flags _ = Unit {0}
 
 -- where there is an object, so do those of what the text of a source comes to
 abbrev pub TextFits : Flags → Option Contents → List ℕ → List ℕ → Result Assembled AsmFault → Type 0
 TextFits flags None name text result = Unit {0}
-TextFits flags (Some contents) name text (Ok made) = StepFits (expansion_of flags.no_warn (Some contents) name text)
+TextFits flags (Some contents) name text (Ok made) = StepFits flags (expansion_of flags (Some contents) name text)
 TextFits flags (Some contents) name text (Err fault) = Unit {0}
 
 -- WHAT A READER FINDS

@@ -1,5 +1,5 @@
 -- What a call of `assemble` answers, by what the input tells of the source.
-use Rattle.std.specs.Prelude.{◌≡◌, ℕ, ◌+◌, ◌*◌, ◌≤◌, ◌⊎◌, min, IsTrue, List, [], ◌∷◌, drop, length, Option, None, Some, Result, Ok, Err}
+use Rattle.std.specs.Prelude.{◌≡◌, ℕ, ◌+◌, ◌*◌, ◌≤◌, ◌⊎◌, min, IsTrue, List, [], ◌∷◌, drop, length, Option, None, Some, Result, Ok, Err, if◌then◌else◌}
 use Rattle.asm_base.specs.Counts.{HasRisen, last_count}
 use Rattle.asm_base.specs.History.{FileEvent, happened, whole_files}
 use Rattle.asm_base.specs.WholeFile.{most_bytes}
@@ -7,6 +7,7 @@ use Rattle.asm_base.specs.Inputs.{Contents}
 use Rattle.asm_macro.specs.Starts.{IsFront, ReadsFront}
 use Rattle.asm_place.specs.Faults.{is_file_too_large}
 use Rattle.asm_place.specs.Sources.{fault_at}
+use Rattle.asm_front.specs.Synthesis.{Synthesis}
 use Rattle.asm_front.specs.Ending.{Flags}
 use Rattle.asm_front.specs.Assembly.{Assembly, assembled, faulty, missing, shown_name, included_by, assembly_of}
 use Rattle.asm_front.specs.declared.answers.Options.{Options}
@@ -14,9 +15,21 @@ use Rattle.asm_front.specs.declared.answers.Assembled.{Assembled}
 use Rattle.asm_front.specs.declared.answers.AsmFault.{AsmFault}
 use Rattle.asm_front.specs.declared.answers.AsmFault.TheVariants.{Source, Read, NoMemory}
 
--- the options that the assembly depends on
-abbrev pub flags_of : Options → Flags
-flags_of options = record { no_warn = options.no_warn; fatal_warnings = options.fatal_warnings }
+-- the options that the assembly depends on, where synthesis, if it is asked for, comes to this
+abbrev pub flags_of : Options → Synthesis → Flags
+flags_of options made = record {
+  no_warn = options.no_warn;
+  fatal_warnings = options.fatal_warnings;
+  scfi = if options.scfi then Some made else None;
+}
+
+-- where there is an object or a fault of the source, this holds with what synthesis comes to; where the input failed or memory ran out it is not known to
+-- what that would be, and this holds with all
+abbrev pub WithSynthesis : Result Assembled AsmFault → (Synthesis → Type 0) → (Synthesis → Type 0) → Type 0
+WithSynthesis (Ok answer) Comes Holds = (made : Synthesis) × Comes made × Holds made
+WithSynthesis (Err (Source fault pos notes files)) Comes Holds = (made : Synthesis) × Comes made × Holds made
+WithSynthesis (Err Read) Comes Holds = (made : Synthesis) → Holds made
+WithSynthesis (Err NoMemory) Comes Holds = (made : Synthesis) → Holds made
 
 -- the answer for a source of this assembly: its object or its first fault, with the notes and the names of the files
 abbrev pub AssemblesAs : Assembly → Result Assembled AsmFault → Type 0

@@ -37,7 +37,7 @@ use Rattle.asm_place.specs.Sources.{pos_at, place_all}
 use Rattle.asm_place.specs.Instructions.{instruction_of, next_item, next_offset}
 use Rattle.elf_object.specs.Image.{image_of}
 use Rattle.elf_object.specs.Places.{section_offset, moved}
-use Rattle.asm_front.specs.Ending.{Flags, framed}
+use Rattle.asm_front.specs.Ending.{Flags, framed, with_made}
 use Rattle.asm_front.specs.Assembly.{handed_of}
 use Rattle.asm_front.specs.declared.answers.Assembled.{Assembled}
 use Rattle.asm_front.specs.declared.answers.AsmFault.{AsmFault}
@@ -60,14 +60,14 @@ file_place symbols sections number item offset =
 abbrev pub next_place : SymbolMap → LaidSections → Placed → ℕ
 next_place symbols laid placed = file_place symbols laid placed.current (next_item placed) (next_offset placed)
 
--- what the object of the statements that are handed out is made of: they are all placed, the frame table of their procedures comes to what they
--- place, and both are laid out
+-- what the object of the statements that are handed out is made of: they are all placed, the frame table of their procedures, or of the functions, comes to
+-- what they place, and both are laid out
 pub record Origin (flags : Flags) (handed : List TokenStatement) (object : List ℕ) : Type 0 where
   pub whole : Placed
   pub tables : Tables
   pub laid : LaidSections
   pub places : place_all handed (nothing_placed flags.no_warn) ≡ Ok whole
-  pub frames : framed whole ≡ Ok tables
+  pub frames : framed (with_made flags.scfi whole) ≡ Ok tables
   pub settles : layout_of tables.symbols tables.sections ≡ Ok laid
   pub image : object ≡ image_of tables.symbols laid
 
@@ -211,7 +211,7 @@ JumpsReadBack flags handed object symbols laid =
 -- FRAME TABLES
 
 -- where there are procedures, the CIE stands in `.eh_frame` in the object, and behind it the FDE of each, which at each distance from the procedure's beginning
--- gives the row that its directives mean, and none from its end on
+-- gives the row that its directives mean, and none from its end on. Functions whose frame tables are worked out stand in place of procedures
 abbrev pub FramesReadBack : List ℕ → Placed → SymbolMap → LaidSections → Type 0
 FramesReadBack object whole symbols laid =
     (frame : Frame) (frames : List Frame) → frames_of whole.procedures ≡ frame ∷ frames → TableReads object symbols laid (frame ∷ frames)
@@ -224,7 +224,7 @@ pub record ReadsBack (flags : Flags) (handed : List TokenStatement) (object : Li
   pub bare : BareReadBack flags handed object made.tables.symbols made.laid
   pub coded : CodesReadBack flags handed object made.tables.symbols made.laid
   pub jumps : JumpsReadBack flags handed object made.tables.symbols made.laid
-  pub frames : FramesReadBack object made.whole made.tables.symbols made.laid
+  pub frames : FramesReadBack object (with_made flags.scfi made.whole) made.tables.symbols made.laid
 
 -- ANSWERS
 

@@ -2,22 +2,20 @@
 
 ghost use Rattle.std.specs.Prelude.{◌≡◌, [], IfOk, OnOk, string_bytes};
 ghost use Rattle.asm_base.specs.declared.faults.Fault.TheVariants.{Statement};
+ghost use Rattle.asm_functions.specs.Followed.{notes_of};
 ghost use Rattle.asm_place.specs.Sources.{pos_at, fault_at};
-ghost use Rattle.asm_front.specs.Answering.{AnswersSmall, IsAnswer, IsAnswered, line_answer};
+ghost use Rattle.asm_front.specs.Answering.{AnswersSmall, AnswersSource, IsAnswered, line_answer};
 ghost use Rattle.asm_front.specs.Assembly as spec;
-ghost use Rattle.asm_front.specs.Assembly.{ended_by, macro_fault, main_file, shown_name, shown_files};
-ghost use Rattle.asm_front.specs.Ending as ending;
-ghost use Rattle.asm_front.specs.Fitting.{AnswerFits, TablesFit};
-ghost use Rattle.asm_front.specs.Outcome.{flags_of};
+ghost use Rattle.asm_front.specs.Assembly.{macro_fault, main_file, shown_name, shown_files};
+ghost use Rattle.asm_front.specs.Fitting.{AnswersFollowed};
 
 use crate::answers::{AsmFault, Assembled, Options};
-use crate::ending::{NotedObject, finished};
+use crate::ending::{NotedObject, finished, synthesized_object};
 use crate::placers::{SourcePlacer, StatementRefusal};
 use asm_base::{Fault, Files, NoMemory, Notes, Pos, Refusal, StatementFault};
 use asm_lines::LineCause;
 use asm_macro::ExpandFault;
 use asm_place::FaultAt;
-use asm_values::Placed;
 use macro_words::MacroCause;
 use std::alloc::{AllocError, Global};
 
@@ -125,20 +123,41 @@ pub(crate) fn faulty(
     }
 }
 
+/// The object of all that was placed, or the fault at the end, by what synthesis comes to, if it is
+/// asked for.
+#[tactic(auto, using(crate::proofs::SynthesizedEnds::plain_answers, crate::proofs::SynthesizedEnds::frames_answer))]
+fn followed_object(
+    alloc: Global,
+    options: &Options,
+    placer: SourcePlacer,
+) -> Result<NotedObject, Refusal<FaultAt>>
+    ensures { AnswersFollowed options.now placer result }
+{
+    let fatal = options.fatal_warnings;
+    match placer.into_parts() {
+        Ok((parts, functions)) => {
+            if options.scfi {
+                synthesized_object(alloc, fatal, parts, functions)
+            } else {
+                finished(alloc, fatal, parts)
+            }
+        }
+        Err(_) => Err(Refusal::NoMemory),
+    }
+}
+
 /// The object of what was placed, or the fault at the end, is answered with the names of the files.
+#[tactic(auto, using(crate::proofs::SynthesizedEnds::object_at_end, crate::proofs::SynthesizedEnds::fault_at_end, crate::proofs::SynthesizedEnds::memory_at_end))]
 fn ended(
     alloc: Global,
-    fatal: bool,
-    name: &str,
+    options: &Options,
     started: &Files,
-    parts: Placed,
+    placer: SourcePlacer,
 ) -> Result<Assembled, AsmFault>
-    ensures answer { IsAnswered (ended_by (shown_files name.now started.now)
-        (ending.finished fatal parts.sections parts.table parts.procedures parts.notes)) result }
-    ensures numbers { OnOk result (TablesFit
-        (ending.with_frames parts.procedures parts.table.symbols parts.sections)) }
+    ensures { AnswersSource options.now started.now placer (Ok tt) result }
 {
-    match finished(alloc, fatal, parts) {
+    let name = options.file.as_str();
+    match followed_object(alloc, options, placer) {
         Ok(NotedObject { object, notes }) => match shown_files(alloc, name, started) {
             Ok(files) => Ok(Assembled {
                 notes,
@@ -152,7 +171,31 @@ fn ended(
     }
 }
 
+/// A fault of expansion is answered with all notes before it.
+fn stopped(
+    alloc: Global,
+    name: &str,
+    started: &Files,
+    placer: SourcePlacer,
+    cause: MacroCause,
+    pos: Pos,
+) -> Result<Assembled, AsmFault>
+    ensures { IsAnswered (spec.faulty
+        (fault_at (Statement (macro_fault cause)) pos (notes_of placer))
+        (shown_files name.now started.now)) result }
+{
+    let fault = Fault::Statement(macro_fault(cause));
+    match placer.into_parts() {
+        Ok((parts, _)) => {
+            let notes = parts.notes;
+            faulty(alloc, name, started, FaultAt { fault, pos, notes })
+        }
+        Err(_) => Err(AsmFault::NoMemory),
+    }
+}
+
 /// The answer for the source with these options, by what expansion answered.
+#[tactic(auto, using(crate::proofs::SynthesizedEnds::read_answer, crate::proofs::SynthesizedEnds::memory_answer))]
 pub(crate) fn answer(
     alloc: Global,
     options: &Options,
@@ -160,24 +203,17 @@ pub(crate) fn answer(
     placer: SourcePlacer,
     expanded: Result<(), ExpandFault<StatementRefusal>>,
 ) -> Result<Assembled, AsmFault>
-    ensures answer { IsAnswer (flags_of options.now) (string_bytes options.now.file)
-        started.now placer expanded result }
+    ensures answer { AnswersSource options.now started.now placer expanded result }
     ensures small { AnswersSmall expanded result }
-    ensures numbers { AnswerFits expanded placer result }
 {
     let name = options.file.as_str();
     match expanded {
-        Ok(()) => {
-            let fatal = options.fatal_warnings;
-            ended(alloc, fatal, name, started, placer.into_parts())
-        }
+        Ok(()) => ended(alloc, options, started, placer),
         Err(ExpandFault::Lines(cause)) => {
             faulty(alloc, name, &Files::new(alloc), line_fault(alloc, cause))
         }
         Err(ExpandFault::Expansion(cause, pos)) => {
-            let fault = Fault::Statement(macro_fault(cause));
-            let notes = placer.into_parts().notes;
-            faulty(alloc, name, started, FaultAt { fault, pos, notes })
+            stopped(alloc, name, started, placer, cause, pos)
         }
         Err(ExpandFault::Placing(refusal)) => { faulty(alloc, name, started, refusal.into_fault()) }
         Err(ExpandFault::Read) => Err(AsmFault::Read),

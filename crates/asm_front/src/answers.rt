@@ -8,7 +8,7 @@ use elf_object::Object;
 pub struct Options {
     /// The name of the source file; the empty name is standard input.
     pub file: String,
-    /// Frame tables are to be synthesized (`--scfi=experimental`). `assemble` does not read it.
+    /// Frame tables are to be worked out of functions (`--scfi=experimental`).
     pub scfi: bool,
     /// Warnings are not to be made (`--no-warn`).
     pub no_warn: bool,

@@ -2,10 +2,9 @@
 
 ghost use Rattle.std.specs.Prelude.{◌≡◌, [], ◌∷◌, string_bytes, IfOk, OnOk};
 ghost use Rattle.std.specs.Io.KnownBytes.{IsAtEnd};
-ghost use Rattle.asm_front.specs.Answering.{AssemblesText, CountsText, ReadsText, StartsIncluded, TakesText};
-ghost use Rattle.asm_front.specs.Outcome.{flags_of, Assembles, CountsMisses, HasAssemblyCause, KeepsCount, NamesFiles, ReadsFiles, StartsFiles, TakesFiles, TakesSource};
-ghost use Rattle.asm_front.specs.Fitting.{SourceIsReadable, TextFits};
-ghost use Rattle.asm_front.specs.ReadsBack.{ReadsBackFrom};
+ghost use Rattle.asm_front.specs.Answering.{AnswersFile, AnswersText, CountsText, ReadsText, StartsIncluded, TakesText};
+ghost use Rattle.asm_front.specs.Outcome.{flags_of, CountsMisses, HasAssemblyCause, KeepsCount, NamesFiles, ReadsFiles, StartsFiles, TakesFiles, TakesSource};
+ghost use Rattle.asm_front.specs.Synthesis.{Synthesis};
 
 use crate::answering::{answer, fault_on_line, faulty};
 use crate::answers::{AsmFault, Assembled, Options};
@@ -26,26 +25,24 @@ fn started_source(alloc: Global, name: &str) -> Result<Files, NoMemory>
 
 /// Assembles a text that is not too large, with the files that it starts. The text's room is given
 /// back before the object takes some.
-#[tactic(auto, using(crate::proofs::StartedFiles::none_starts))]
+#[tactic(auto, using(crate::proofs::AnswersMade::text_wanted, crate::proofs::AnswersMade::none_missed, crate::proofs::StartedFiles::none_starts))]
 fn assemble_text<I: Inputs>(
     alloc: Global,
     options: &Options,
     text: Text,
     ins: &mut I,
 ) -> Result<Assembled, AsmFault>
-    ensures outcome { AssemblesText (flags_of options.now) (I.contents ins.old)
-        (string_bytes options.now.file) text result }
-    ensures numbers { TextFits (flags_of options.now) (I.contents ins.old)
-        (string_bytes options.now.file) text result }
+    ensures outcome { AnswersText options.now (I.contents ins.old) text result }
     ensures names { NamesFiles (string_bytes options.now.file) result }
     ensures cause { HasAssemblyCause result (I.faults ins.old) (I.faults ins.new) }
-    ensures missing { CountsText (flags_of options.now) (I.contents ins.old)
-        (string_bytes options.now.file) text (I.missing ins.old) (I.missing ins.new) }
+    ensures missing { (made : Synthesis) → CountsText (flags_of options.now made)
+        (I.contents ins.old) (string_bytes options.now.file) text
+        (I.missing ins.old) (I.missing ins.new) }
     ensures found { KeepsCount result (I.missing ins.old) (I.missing ins.new) }
     ensures taken { TakesSource result (I.taken ins.old) (I.taken ins.new) }
     ensures at_most { TakesText result (I.taken ins.old) (I.taken ins.new) }
-    ensures starts { StartsIncluded (flags_of options.now) (I.contents ins.old)
-        (string_bytes options.now.file) text
+    ensures starts { (made : Synthesis) → StartsIncluded (flags_of options.now made)
+        (I.contents ins.old) (string_bytes options.now.file) text
         (I.history ins.old) (I.history ins.new) (I.taken ins.old) (I.taken ins.new) }
     ensures contents { I.contents ins.new ≡ I.contents ins.old }
     ensures history { ReadsText result (I.history ins.old) (I.history ins.new) }
@@ -57,7 +54,7 @@ fn assemble_text<I: Inputs>(
         Ok(started) => started,
         Err(_) => return Err(AsmFault::NoMemory),
     };
-    let mut placer = match SourcePlacer::new(alloc, options.no_warn) {
+    let mut placer = match SourcePlacer::new(alloc, options.no_warn, options.scfi) {
         Ok(placer) => placer,
         Err(_) => return Err(AsmFault::NoMemory),
     };
@@ -66,27 +63,23 @@ fn assemble_text<I: Inputs>(
 }
 
 /// Reads the source and the files that it includes, and assembles it: its object, or its first fault.
-#[tactic(auto, using(crate::proofs::AnswersReadBack::no_object, crate::proofs::AnswersFit::nothing_readable, crate::proofs::StartedFiles::source_starts))]
+#[tactic(auto, using(crate::proofs::AnswersMade::file_failed, crate::proofs::AnswersMade::file_wanted, crate::proofs::WholeSources::source_missed, crate::proofs::StartedFiles::source_starts))]
 pub fn assemble<I: Inputs>(
     alloc: Global,
     options: &Options,
     ins: &mut I,
 ) -> Result<Assembled, AsmFault>
-    ensures outcome { Assembles (flags_of options.now) (I.contents ins.old)
-        (string_bytes options.now.file) result }
-    ensures reads_back { ReadsBackFrom (flags_of options.now) (I.contents ins.old)
-        (string_bytes options.now.file) result }
-    ensures readable { SourceIsReadable (flags_of options.now) (I.contents ins.old)
-        (string_bytes options.now.file) result }
+    ensures outcome { AnswersFile options.now (I.contents ins.old) result }
     ensures names { NamesFiles (string_bytes options.now.file) result }
     ensures cause { HasAssemblyCause result (I.faults ins.old) (I.faults ins.new) }
-    ensures missing { CountsMisses (flags_of options.now) (I.contents ins.old)
-        (string_bytes options.now.file) (I.missing ins.old) (I.missing ins.new) }
+    ensures missing { (made : Synthesis) → CountsMisses (flags_of options.now made)
+        (I.contents ins.old) (string_bytes options.now.file)
+        (I.missing ins.old) (I.missing ins.new) }
     ensures found { KeepsCount result (I.missing ins.old) (I.missing ins.new) }
     ensures taken { TakesSource result (I.taken ins.old) (I.taken ins.new) }
     ensures at_most { TakesFiles result (I.taken ins.old) (I.taken ins.new) }
-    ensures starts { StartsFiles (flags_of options.now) (I.contents ins.old)
-        (string_bytes options.now.file)
+    ensures starts { (made : Synthesis) → StartsFiles (flags_of options.now made)
+        (I.contents ins.old) (string_bytes options.now.file)
         (I.history ins.old) (I.history ins.new) (I.taken ins.old) (I.taken ins.new) }
     ensures contents { I.contents ins.new ≡ I.contents ins.old }
     ensures history { ReadsFiles (string_bytes options.now.file) result

@@ -1,9 +1,12 @@
-//! The end of a source: the frame table of its procedures, the layout of what was placed with it, and its object, or the
-//! first fault of these.
+//! The end of a source: the frame table of its procedures, or of its functions, the layout of what was placed with it, and
+//! its object, or the first fault of these.
 
-ghost use Rattle.std.specs.Prelude.{◌≡◌, ◌<◌, Ok, OnOk};
+ghost use Rattle.std.specs.Prelude.{◌≡◌, ◌<◌, All, Ok, OnOk};
 ghost use Rattle.asm_front.specs.Ending as spec;
-ghost use Rattle.asm_front.specs.Fitting.{LayoutFits, TablesFit};
+ghost use Rattle.asm_front.specs.Fitting.{AnswersWithFrames, LayoutFits, TablesFit};
+ghost use Rattle.asm_front.specs.Synthesis.{IsReady};
+ghost use Rattle.asm_functions.specs.Following.{end_of};
+ghost use Rattle.code_functions.specs.Recorded.{all_closed};
 ghost use Rattle.elf_object.specs.Limits.{NumbersFit};
 ghost use Rattle.asm_base.specs.Refusals.{Gives, Raises, Returns};
 ghost use Rattle.asm_base.specs.declared.refusals.Refusal.TheVariants as refusal;
@@ -16,6 +19,7 @@ ghost use Rattle.asm_relax.specs.declared.plan_states.PlanState.TheVariants.{Fre
 ghost use Rattle.asm_relax.specs.Settling.{layout_of, settled_plan, Settles};
 ghost use Rattle.elf_object.specs.Objects.{object_of};
 
+use crate::synthesizing::{ItemFaultAt, synthesized};
 use asm_base::{EndFault, Fault, Noted, Notes, Pos, Refusal, StatementFault, Steps};
 use asm_frags::{FragCause, FragFault, Laid, Sections};
 use asm_place::FaultAt;
@@ -23,6 +27,7 @@ use asm_relax::{LayoutFault, Plan, Settled};
 use asm_uses::SymbolUses;
 use asm_values::Placed;
 use cfi_directives::{Directives, Frames};
+use code_functions::Functions;
 use elf_object::{Object, ObjectCause, ObjectFault};
 use std::alloc::Global;
 use std::marker::Brand;
@@ -267,17 +272,48 @@ fn framed_object(
     fatal: bool,
     mut sections: Sections,
     mut table: SymbolUses,
-    frames: &Frames,
+    frames: Frames,
     notes: Notes,
 ) -> Result<NotedObject, Refusal<FaultAt>>
-    ensures object { Returns result (spec.framed_end fatal table (spec.first_line frames.now) notes
-        (placed frames.now (tables_of table.symbols sections))) }
-    ensures numbers { OnOk result (TablesFit
-        (placed frames.now (tables_of table.symbols sections))) }
+    ensures object { Returns result (spec.framed_end fatal table (spec.first_line frames) notes
+        (placed frames (tables_of table.symbols sections))) }
+    ensures numbers { OnOk result (TablesFit (placed frames (tables_of table.symbols sections))) }
 {
-    match put_frames(alloc, frames, &mut table, &mut sections) {
+    let first = first_line(&frames);
+    let put = put_frames(alloc, &frames, &mut table, &mut sections);
+    // Layout takes room of its own.
+    drop(frames);
+    match put {
         Ok(()) => noted_object(alloc, fatal, sections, &table, notes),
-        Err(Refusal::Fault(cause)) => Err(refused(table_fault(cause), first_line(frames), notes)),
+        Err(Refusal::Fault(cause)) => Err(refused(table_fault(cause), first, notes)),
+        Err(Refusal::NoMemory) => Err(Refusal::NoMemory),
+    }
+}
+
+/// The object with the frame tables that are worked out of the functions, or the first fault at the end: those of functions
+/// come before all others.
+#[tactic(auto, using(crate::proofs::SynthesizedEnds::frames_made, crate::proofs::SynthesizedEnds::fault_made))]
+pub(crate) fn synthesized_object(
+    alloc: Global,
+    fatal: bool,
+    parts: Placed,
+    functions: Functions,
+) -> Result<NotedObject, Refusal<FaultAt>>
+    requires { All (IsReady parts.sections) functions }
+    ensures { AnswersWithFrames fatal parts.sections parts.table
+        (all_closed (end_of parts.sections) functions) parts.notes result }
+{
+    let Placed {
+        sections,
+        table,
+        notes,
+        ..
+    } = parts;
+    match synthesized(alloc, functions, &sections, table.symbols()) {
+        Ok(frames) => framed_object(alloc, fatal, sections, table, frames, notes),
+        Err(Refusal::Fault(ItemFaultAt { fault, pos })) => {
+            Err(refused(Fault::Scfi(fault), pos, notes))
+        }
         Err(Refusal::NoMemory) => Err(Refusal::NoMemory),
     }
 }
@@ -306,5 +342,5 @@ pub(crate) fn finished(
         let fault = Fault::End(EndFault::UnclosedProcedure);
         return Err(refused(fault, pos, notes));
     }
-    framed_object(alloc, fatal, sections, table, &frames, notes)
+    framed_object(alloc, fatal, sections, table, frames, notes)
 }

@@ -1,22 +1,21 @@
 //! What holds of every source.
 
-ghost use Rattle.std.specs.Prelude.{◌≡◌, ℕ, Bool, List, Some, Err, false};
+ghost use Rattle.std.specs.Prelude.{◌≡◌, ℕ, List, Some, Err, false};
 ghost use Rattle.asm_base.specs.Inputs.{Contents};
-ghost use Rattle.asm_base.specs.declared.notes.Noted.{Noted};
-ghost use Rattle.asm_frags.specs.Writing.{LooseSection};
+ghost use Rattle.asm_functions.specs.Followed.{Followed};
 ghost use Rattle.asm_macro.specs.Placing.{untold};
 ghost use Rattle.asm_place.specs.Faults.{is_file_too_large};
 ghost use Rattle.asm_place.specs.declared.place_faults.FaultAt.{FaultAt};
-ghost use Rattle.asm_uses.specs.Tables.{Table};
-ghost use Rattle.cfi_directives.specs.Procedures.{Procedures};
-ghost use Rattle.asm_front.specs.Ending.{Flags, finished};
+ghost use Rattle.asm_front.specs.Synthesis.{IsSynthesis, Synthesis};
+ghost use Rattle.asm_front.specs.Ending.{Flags, followed_end};
 ghost use Rattle.asm_front.specs.declared.ending.NotedObject.{NotedObject};
-ghost use Rattle.asm_front.specs.Assembly.{assembled, assembly_of, expansion_of, handed_of};
+ghost use Rattle.asm_front.specs.Assembly.{assembled, assembly_of, expansion_of, handed_of, SourceIsMade};
 ghost use Rattle.asm_front.specs.Fitting.{ObjectIsReadable, StepFits};
 ghost use Rattle.asm_front.specs.ReadsBack.{ReadsBack};
 
 use crate::placers::SourcePlacer;
 use asm_expr::coefficients_add;
+use asm_functions::{following_is_placing, functions_stand_in_order};
 use asm_macro::handed_statements_are_placed;
 use asm_place::{
     encoding_items, instruction_items, jump_items, jumps_read, places_stand, placing_in_order,
@@ -31,35 +30,48 @@ use elf_object::{bytes_stand, items_stand, values_stand};
 use frame_laws::frame_tables_read;
 use item_bytes::jump_reads_back;
 use object_laws::{objects_fit, source_sections_found};
+use synthesis_laws::{answers_are_one, synthesis_sees, tables_can_be_written};
 use x86_encode::{encodings_are_codes, fields_stand_apart};
 use x86_lookup::bare_codes_read;
 use x86_table::read_one_way;
 
 /// Only the reading of files calls one too large: the end of a source does not.
 pub fn the_end_is_no_reading()
-    ensures { (fatal : Bool) (sections : List LooseSection) (table : Table)
-        (procedures : Procedures) (notes : List Noted) (fault : FaultAt)
-        → finished fatal sections table procedures notes ≡ Err fault
+    ensures { (flags : Flags) (f : Followed) (fault : FaultAt) → followed_end flags f ≡ Err fault
         → is_file_too_large fault.fault ≡ false }
 {}
 
 /// Where contents are told, no file that a source starts is untold.
 pub fn told_files_are_known()
-    ensures { (no_warn : Bool) (contents : Contents) (name source : List ℕ)
-        → expansion_of no_warn (Some contents) name source ≡ untold → ⊥ }
+    ensures { (flags : Flags) (contents : Contents) (name source : List ℕ)
+        → expansion_of flags (Some contents) name source ≡ untold → ⊥ }
 {}
+
+/// What the functions of a source come to is one thing: of all that was placed and followed there is one synthesis.
+pub fn synthesis_is_one()
+    ensures { (f : Followed) (one other : Synthesis) → IsSynthesis f one → IsSynthesis f other
+        → one ≡ other }
+{
+    answers_are_one();
+    synthesis_sees();
+}
 
 /// The object is that of a layout of all that the expansion of a source hands out. Each instruction of it stands in the object,
 /// where the statements before it end, as bytes that read as it, with the values that its fields have there, and as no other
 /// instruction. A direct jump, short or near, reads as the jump to its target: a label stands as far from the place behind the
 /// jump as the jump's bytes say. The frame table of the procedures stands in the object: at each place of a procedure its
-/// entry gives, by its bytes, the row that the procedure's directives mean there.
+/// entry gives, by its bytes, the row that the procedure's directives mean there. Where frame tables are worked out of
+/// functions, these stand in place of procedures, with the instructions of their tables.
 pub fn written_reads_back()
     ensures { (flags : Flags) (contents : Contents) (name source : List ℕ) (made : NotedObject)
         (files : List (List ℕ)) → assembly_of flags contents name source ≡ assembled made files
+        → SourceIsMade flags contents name source
         → ReadsBack flags (handed_of flags contents name source) made.object }
 {
     handed_statements_are_placed::<SourcePlacer>();
+    following_is_placing();
+    functions_stand_in_order();
+    tables_can_be_written();
     placing_in_order();
     layouts_keep_sections();
     settled_is_placed();
@@ -94,11 +106,13 @@ pub fn written_reads_back()
 pub fn written_is_readable()
     ensures { (flags : Flags) (contents : Contents) (name source : List ℕ) (made : NotedObject)
         (files : List (List ℕ)) → assembly_of flags contents name source ≡ assembled made files
-        → StepFits (expansion_of flags.no_warn (Some contents) name source)
+        → SourceIsMade flags contents name source
+        → StepFits flags (expansion_of flags (Some contents) name source)
         → ObjectIsReadable flags (handed_of flags contents name source) made.object }
 {
     written_reads_back();
     handed_statements_are_placed::<SourcePlacer>();
+    following_is_placing();
     placing_in_order();
     sources_are_small();
     tables_add_little();

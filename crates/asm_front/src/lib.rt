@@ -8,10 +8,12 @@ mod ending;
 mod knowing;
 mod laws;
 mod placers;
+mod synthesizing;
 
 pub use answers::{AsmFault, Assembled, Options};
 pub use assembling::assemble;
 pub use ending::NotedObject;
 pub use laws::{
-    the_end_is_no_reading, told_files_are_known, written_is_readable, written_reads_back,
+    synthesis_is_one, the_end_is_no_reading, told_files_are_known, written_is_readable,
+    written_reads_back,
 };

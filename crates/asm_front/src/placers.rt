@@ -1,10 +1,16 @@
 //! The placer of the statements that expansion hands out.
 
+ghost use Rattle.std.specs.Prelude.{◌≡◌, [], false};
+
 use crate::knowing::{definition_told, value_told};
-use asm_base::{NoMemory, Notes, Pos, Refusal, Token};
+use asm_base::{NoMemory, Pos, Refusal, Token};
+use asm_functions::{
+    FollowingPlacer, SeenFunctions, following_is_not_reading, functions_stand_in_order, with_remark,
+};
 use asm_lines::Placer;
-use asm_place::{BoxedFault, FaultAt, StatementPlacer, placing_is_not_reading};
+use asm_place::{BoxedFault, FaultAt};
 use asm_values::Placed;
+use code_functions::Functions;
 use macro_words::{KnowingPlacer, MacroCause};
 use std::alloc::{AllocError, Global};
 use std::marker::Model;
@@ -40,75 +46,121 @@ impl StatementRefusal {
     }
 }
 
-/// What the statements so far have placed, and what counts and conditions know there.
+/// What the statements so far have placed, the functions that are followed, and what counts and
+/// conditions know there.
 #[derive(Drop)]
 pub(crate) struct SourcePlacer {
-    statements: StatementPlacer,
+    following: FollowingPlacer,
 }
 
 impl Model for SourcePlacer {
-    ghost use Rattle.asm_values.specs.State.{Placed};
+    ghost use Rattle.asm_functions.specs.Followed.{Followed};
+    ghost use Rattle.asm_front.specs.Synthesis.{IsOrdered};
 
-    ghost Value = { Placed };
+    ghost Value = { Followed };
 
-    ghost view = { λ placer. placer.statements };
+    ghost view = { λ placer. placer.following };
+
+    ghost invariant = { λ placer. IsOrdered placer.following };
+}
+
+/// No function is followed any more, as nothing is known of where sections end behind a fault.
+#[inline(never)]
+fn forget(following: &mut FollowingPlacer)
+    ensures asked { following.new.asked ≡ false }
+    ensures functions { following.new.functions ≡ [] }
+{
+    following.asked = false;
+    following.functions = SeenFunctions {
+        functions: Functions::new(following.statements.assembler.alloc),
+    };
 }
 
 impl SourcePlacer {
-    ghost use Rattle.std.specs.Prelude.{◌≡◌, IfOk};
-    ghost use Rattle.asm_values.specs.State.{nothing_placed};
+    ghost use Rattle.std.specs.Prelude.{◌≡◌, All, IfOk};
+    ghost use Rattle.asm_functions.specs.Followed.{nothing_followed, notes_of};
+    ghost use Rattle.code_functions.specs.Seen.{all_seen};
+    ghost use Rattle.asm_front.specs.Synthesis.{IsReady};
 
     /// Nothing is placed yet.
-    pub(crate) fn new(alloc: Global, no_warn: bool) -> Result<SourcePlacer, NoMemory>
-        ensures { IfOk result (λ placer. placer ≡ nothing_placed no_warn) }
+    pub(crate) fn new(alloc: Global, no_warn: bool, asked: bool) -> Result<SourcePlacer, NoMemory>
+        ensures { IfOk result (λ placer. placer ≡ nothing_followed no_warn asked) }
     {
-        match StatementPlacer::new(alloc, no_warn) {
-            Ok(statements) => Ok(SourcePlacer { statements }),
+        match FollowingPlacer::new(alloc, no_warn, asked) {
+            Ok(following) => Ok(SourcePlacer { following }),
             Err(_) => Err(AllocError),
         }
     }
 
-    /// The sections, the symbols, the procedures and the notes.
-    pub(crate) fn into_parts(self) -> Placed
-        ensures sections { result.sections ≡ self.sections }
-        ensures table { result.table ≡ self.table }
-        ensures procedures { result.procedures ≡ self.procedures }
-        ensures notes { result.notes ≡ self.notes }
+    /// The sections, the symbols, the procedures and all notes; and the functions.
+    pub(crate) fn into_parts(self) -> Result<(Placed, Functions), NoMemory>
+        ensures sections { IfOk result (λ parts. parts.0.sections ≡ self.placed.sections) }
+        ensures table { IfOk result (λ parts. parts.0.table ≡ self.placed.table) }
+        ensures procedures { IfOk result (λ parts. parts.0.procedures ≡ self.placed.procedures) }
+        ensures notes { IfOk result (λ parts. parts.0.notes ≡ notes_of self) }
+        ensures functions { IfOk result (λ parts. all_seen parts.1 ≡ self.functions) }
+        ensures ready { IfOk result (λ parts. All (IsReady parts.0.sections) parts.1) }
     {
-        self.statements.assembler.into_parts()
+        functions_stand_in_order();
+        let FollowingPlacer {
+            statements,
+            functions,
+            ignored,
+            ..
+        } = self.following;
+        let alloc = statements.assembler.alloc;
+        let no_warn = statements.assembler.no_warn;
+        let Placed {
+            sections,
+            table,
+            procedures,
+            notes,
+        } = statements.assembler.into_parts();
+        let notes = with_remark(alloc, no_warn, ignored, notes)?;
+        let parts = Placed {
+            sections,
+            table,
+            procedures,
+            notes,
+        };
+        Ok((parts, functions.functions))
     }
 }
 
 impl Placer for SourcePlacer {
-    ghost use Rattle.asm_place.specs.Sources.{place};
+    ghost use Rattle.asm_functions.specs.Followed.{place_followed};
 
     type Fault = StatementRefusal;
 
-    ghost placed = { λ before statement. place statement before };
+    ghost placed = { λ before statement. place_followed statement before };
 
     #[inline(always)]
     fn place(&mut self, pos: Pos, tokens: &[Token]) -> Result<(), Refusal<StatementRefusal>> {
-        match self.statements.place(pos, tokens) {
+        match self.following.place(pos, tokens) {
             Ok(()) => Ok(()),
             Err(Refusal::Fault(fault)) => {
-                placing_is_not_reading();
+                forget(&mut self.following);
+                following_is_not_reading();
                 Err(Refusal::Fault(StatementRefusal { fault }))
             }
-            Err(Refusal::NoMemory) => Err(Refusal::NoMemory),
+            Err(Refusal::NoMemory) => {
+                forget(&mut self.following);
+                Err(Refusal::NoMemory)
+            }
         }
     }
 }
 
 impl KnowingPlacer for SourcePlacer {
-    ghost use Rattle.asm_front.specs.Knowing.{told_by};
+    ghost use Rattle.asm_front.specs.Assembly.{told_of};
 
-    ghost told = { told_by };
+    ghost told = { told_of };
 
     fn value(&self, tokens: &[Token]) -> Result<u64, Refusal<MacroCause>> {
-        value_told(&self.statements.assembler, tokens)
+        value_told(&self.following.statements.assembler, tokens)
     }
 
     fn is_defined(&self, tokens: &[Token]) -> Result<bool, Refusal<MacroCause>> {
-        definition_told(&self.statements.assembler, tokens)
+        definition_told(&self.following.statements.assembler, tokens)
     }
 }

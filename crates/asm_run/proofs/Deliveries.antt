@@ -13,6 +13,7 @@ use Rattle.asm_base.specs.declared.positions.Pos.{Pos}
 use Rattle.asm_front.specs.declared.answers.Assembled.{Assembled}
 use Rattle.asm_front.specs.declared.answers.AsmFault.{AsmFault}
 use Rattle.asm_front.specs.declared.answers.AsmFault.TheVariants.{Source}
+use Rattle.asm_front.specs.Synthesis.{Synthesis}
 use Rattle.asm_front.specs.Ending.{Flags}
 use Rattle.asm_front.specs.Outcome.{Assembles, AssemblesFile}
 use Rattle.asm_run.specs.Words.{Invocation}
@@ -29,58 +30,58 @@ delivered_in_part output bytes messages before said made after says in_part = el
 ]
 
 -- what the source stands for whose assembly gave this object
-object_of_source : (invocation : Invocation) (contents : Contents) (file : Option (List ℕ)) (made : Assembled) (messages : List ℕ)
-    → AssemblesFile (flags_by invocation) contents invocation.file file (Ok made) → messages ≡ remarks made.files made.notes
-    → file_outcome invocation contents file ≡ object invocation.object made.object messages (drop 1 made.files)
-object_of_source invocation contents None made messages assembles same = absurd cc
-object_of_source invocation contents (Some source) made messages assembles same =
+object_of_source : (invocation : Invocation) (held : Synthesis) (contents : Contents) (file : Option (List ℕ)) (made : Assembled) (messages : List ℕ)
+    → AssemblesFile (flags_by invocation held) contents invocation.file file (Ok made) → messages ≡ remarks made.files made.notes
+    → file_outcome invocation held contents file ≡ object invocation.object made.object messages (drop 1 made.files)
+object_of_source invocation held contents None made messages assembles same = absurd cc
+object_of_source invocation held contents (Some source) made messages assembles same =
     ap (source_outcome invocation) assembles ∙ ap (λ said. object invocation.object made.object said (drop 1 made.files)) (sym same)
 
 -- and whose assembly gave this fault
-fault_of_source : (invocation : Invocation) (contents : Contents) (file : Option (List ℕ)) (fault : Fault) (pos : Pos) (notes : List Noted) (files : List (List ℕ)) (text : List ℕ)
-    → AssemblesFile (flags_by invocation) contents invocation.file file (Err (Source fault pos notes files)) → text ≡ refusal files notes fault pos
-    → file_outcome invocation contents file ≡ refused text (drop 1 files)
-fault_of_source invocation contents None fault pos notes files text assembles same = absurd cc
-fault_of_source invocation contents (Some source) fault pos notes files text assembles same = ap (source_outcome invocation) assembles ∙ ap (λ said. refused said (drop 1 files)) (sym same)
+fault_of_source : (invocation : Invocation) (held : Synthesis) (contents : Contents) (file : Option (List ℕ)) (fault : Fault) (pos : Pos) (notes : List Noted) (files : List (List ℕ)) (text : List ℕ)
+    → AssemblesFile (flags_by invocation held) contents invocation.file file (Err (Source fault pos notes files)) → text ≡ refusal files notes fault pos
+    → file_outcome invocation held contents file ≡ refused text (drop 1 files)
+fault_of_source invocation held contents None fault pos notes files text assembles same = absurd cc
+fault_of_source invocation held contents (Some source) fault pos notes files text assembles same = ap (source_outcome invocation) assembles ∙ ap (λ said. refused said (drop 1 files)) (sym same)
 
 -- the messages were said and the object was made
-pub delivered : (contents : Option Contents) (invocation : Invocation) (flags : Flags) (name : List ℕ) (made : Assembled) (messages : List ℕ) (e : Effects)
-    → flags ≡ flags_by invocation → name ≡ invocation.file → Assembles flags contents name (Ok made) → messages ≡ remarks made.files made.notes
-    → MakesObject invocation.object made.object messages e → IsDone invocation.object (invocation_outcome invocation contents) e
-delivered None invocation flags name made messages e asked named assembles same makes = (made.object, messages, makes)
-delivered (Some contents) invocation flags name made messages e asked named assembles same makes =
-    let here : AssemblesFile (flags_by invocation) contents invocation.file (contents invocation.file) (Ok made) =
+pub delivered : (contents : Option Contents) (invocation : Invocation) (held : Synthesis) (flags : Flags) (name : List ℕ) (made : Assembled) (messages : List ℕ) (e : Effects)
+    → flags ≡ flags_by invocation held → name ≡ invocation.file → Assembles flags contents name (Ok made) → messages ≡ remarks made.files made.notes
+    → MakesObject invocation.object made.object messages e → IsDone invocation.object (invocation_outcome invocation held contents) e
+delivered None invocation held flags name made messages e asked named assembles same makes = (made.object, messages, makes)
+delivered (Some contents) invocation held flags name made messages e asked named assembles same makes =
+    let here : AssemblesFile (flags_by invocation held) contents invocation.file (contents invocation.file) (Ok made) =
     subst (λ f. AssemblesFile f contents invocation.file (contents invocation.file) (Ok made)) asked (subst (λ n. AssemblesFile flags contents n (contents n) (Ok made)) named assembles) in
-    subst (λ o. IsDone invocation.object (Some o) e) (sym (object_of_source invocation contents (contents invocation.file) made messages here same)) makes
+    subst (λ o. IsDone invocation.object (Some o) e) (sym (object_of_source invocation held contents (contents invocation.file) made messages here same)) makes
 
 -- or only in part
-pub made_in_part : (contents : Option Contents) (invocation : Invocation) (flags : Flags) (name : List ℕ) (made : Assembled) (messages : List ℕ) (e : Effects)
-    → flags ≡ flags_by invocation → name ≡ invocation.file → Assembles flags contents name (Ok made) → messages ≡ remarks made.files made.notes
-    → MakesInPart invocation.object made.object messages e → IsWriteFault invocation.object (invocation_outcome invocation contents) e
-made_in_part None invocation flags name made messages e asked named assembles same makes = (made.object, messages, makes)
-made_in_part (Some contents) invocation flags name made messages e asked named assembles same makes =
-    let here : AssemblesFile (flags_by invocation) contents invocation.file (contents invocation.file) (Ok made) =
+pub made_in_part : (contents : Option Contents) (invocation : Invocation) (held : Synthesis) (flags : Flags) (name : List ℕ) (made : Assembled) (messages : List ℕ) (e : Effects)
+    → flags ≡ flags_by invocation held → name ≡ invocation.file → Assembles flags contents name (Ok made) → messages ≡ remarks made.files made.notes
+    → MakesInPart invocation.object made.object messages e → IsWriteFault invocation.object (invocation_outcome invocation held contents) e
+made_in_part None invocation held flags name made messages e asked named assembles same makes = (made.object, messages, makes)
+made_in_part (Some contents) invocation held flags name made messages e asked named assembles same makes =
+    let here : AssemblesFile (flags_by invocation held) contents invocation.file (contents invocation.file) (Ok made) =
     subst (λ f. AssemblesFile f contents invocation.file (contents invocation.file) (Ok made)) asked (subst (λ n. AssemblesFile flags contents n (contents n) (Ok made)) named assembles) in
-    subst (λ o. IsWriteFault invocation.object (Some o) e) (sym (object_of_source invocation contents (contents invocation.file) made messages here same)) makes
+    subst (λ o. IsWriteFault invocation.object (Some o) e) (sym (object_of_source invocation held contents (contents invocation.file) made messages here same)) makes
 
 -- the messages of a fault were said
-pub told : (contents : Option Contents) (invocation : Invocation) (flags : Flags) (name : List ℕ) (fault : Fault) (pos : Pos) (notes : List Noted) (files : List (List ℕ)) (text : List ℕ) (e : Effects)
-    → flags ≡ flags_by invocation → name ≡ invocation.file → Assembles flags contents name (Err (Source fault pos notes files)) → text ≡ refusal files notes fault pos
-    → Refuses text e → IsSourceFault (invocation_outcome invocation contents) e
-told None invocation flags name fault pos notes files text e asked named assembles same refuses = (text, refuses)
-told (Some contents) invocation flags name fault pos notes files text e asked named assembles same refuses =
+pub told : (contents : Option Contents) (invocation : Invocation) (held : Synthesis) (flags : Flags) (name : List ℕ) (fault : Fault) (pos : Pos) (notes : List Noted) (files : List (List ℕ)) (text : List ℕ) (e : Effects)
+    → flags ≡ flags_by invocation held → name ≡ invocation.file → Assembles flags contents name (Err (Source fault pos notes files)) → text ≡ refusal files notes fault pos
+    → Refuses text e → IsSourceFault (invocation_outcome invocation held contents) e
+told None invocation held flags name fault pos notes files text e asked named assembles same refuses = (text, refuses)
+told (Some contents) invocation held flags name fault pos notes files text e asked named assembles same refuses =
     let answer : Result Assembled AsmFault = Err (Source fault pos notes files) in
-    let here : AssemblesFile (flags_by invocation) contents invocation.file (contents invocation.file) answer =
+    let here : AssemblesFile (flags_by invocation held) contents invocation.file (contents invocation.file) answer =
     subst (λ f. AssemblesFile f contents invocation.file (contents invocation.file) answer) asked (subst (λ n. AssemblesFile flags contents n (contents n) answer) named assembles) in
-    subst (λ o. IsSourceFault (Some o) e) (sym (fault_of_source invocation contents (contents invocation.file) fault pos notes files text here same)) refuses
+    subst (λ o. IsSourceFault (Some o) e) (sym (fault_of_source invocation held contents (contents invocation.file) fault pos notes files text here same)) refuses
 
 -- or only in part
-pub told_in_part : (contents : Option Contents) (invocation : Invocation) (flags : Flags) (name : List ℕ) (fault : Fault) (pos : Pos) (notes : List Noted) (files : List (List ℕ)) (text : List ℕ) (e : Effects)
-    → flags ≡ flags_by invocation → name ≡ invocation.file → Assembles flags contents name (Err (Source fault pos notes files)) → text ≡ refusal files notes fault pos
-    → RefusesInPart text e → IsWriteFault invocation.object (invocation_outcome invocation contents) e
-told_in_part None invocation flags name fault pos notes files text e asked named assembles same refuses = ([], text, inl refuses)
-told_in_part (Some contents) invocation flags name fault pos notes files text e asked named assembles same refuses =
+pub told_in_part : (contents : Option Contents) (invocation : Invocation) (held : Synthesis) (flags : Flags) (name : List ℕ) (fault : Fault) (pos : Pos) (notes : List Noted) (files : List (List ℕ)) (text : List ℕ) (e : Effects)
+    → flags ≡ flags_by invocation held → name ≡ invocation.file → Assembles flags contents name (Err (Source fault pos notes files)) → text ≡ refusal files notes fault pos
+    → RefusesInPart text e → IsWriteFault invocation.object (invocation_outcome invocation held contents) e
+told_in_part None invocation held flags name fault pos notes files text e asked named assembles same refuses = ([], text, inl refuses)
+told_in_part (Some contents) invocation held flags name fault pos notes files text e asked named assembles same refuses =
     let answer : Result Assembled AsmFault = Err (Source fault pos notes files) in
-    let here : AssemblesFile (flags_by invocation) contents invocation.file (contents invocation.file) answer =
+    let here : AssemblesFile (flags_by invocation held) contents invocation.file (contents invocation.file) answer =
     subst (λ f. AssemblesFile f contents invocation.file (contents invocation.file) answer) asked (subst (λ n. AssemblesFile flags contents n (contents n) answer) named assembles) in
-    subst (λ o. IsWriteFault invocation.object (Some o) e) (sym (fault_of_source invocation contents (contents invocation.file) fault pos notes files text here same)) refuses
+    subst (λ o. IsWriteFault invocation.object (Some o) e) (sym (fault_of_source invocation held contents (contents invocation.file) fault pos notes files text here same)) refuses

@@ -6,5 +6,7 @@ mod StartedFiles
 mod CommandSamples
 mod ReadsBackAgain
 mod ReadableObjects
+mod StandingOutcomes
+mod OneOutcome
 mod Reading
 mod Samples

@@ -2,9 +2,10 @@
 use Rattle.std.proofs.Common.{◌≡◌, ℕ, List, Option, None, Some, refl}
 use Rattle.asm_base.specs.Inputs.{Contents}
 use Rattle.asm_lines.specs.NextStatements.{TokenStatement}
+use Rattle.asm_front.specs.Synthesis.{Synthesis}
 use Rattle.asm_front.specs.Ending.{Flags}
 use Rattle.asm_front.specs.declared.ending.NotedObject.{NotedObject}
-use Rattle.asm_front.specs.Assembly.{Assembly, assembled, faulty, assembly_of, handed_of}
+use Rattle.asm_front.specs.Assembly.{Assembly, assembled, faulty, assembly_of, handed_of, SourceIsMade, FileIsMade, IsMade}
 use Rattle.asm_front.specs.Assembly as assembly
 use Rattle.asm_front.specs.ReadsBack.{ReadsBack}
 use Rattle.asm_run.specs.Words.{Invocation}
@@ -14,7 +15,7 @@ use Rattle.asm_run.specs.ReadsBack.{OutcomeReadsBack, FileReadsBack, InvocationR
 -- the law of the definition
 abbrev pub Law : Type 0
 Law = (flags : Flags) (contents : Contents) (name source : List ℕ) (made : NotedObject) (files : List (List ℕ))
-    → assembly_of flags contents name source ≡ assembled made files → ReadsBack flags (handed_of flags contents name source) made.object
+    → assembly_of flags contents name source ≡ assembled made files → SourceIsMade flags contents name source → ReadsBack flags (handed_of flags contents name source) made.object
 
 answer_reads_back : (invocation : Invocation) (flags : Flags) (handed : List TokenStatement) (answer : Assembly)
     → ((made : NotedObject) (files : List (List ℕ)) → answer ≡ assembled made files → ReadsBack flags handed made.object) → OutcomeReadsBack flags handed (source_outcome invocation answer)
@@ -22,18 +23,21 @@ answer_reads_back invocation flags handed (assembled made files) law = law made 
 answer_reads_back invocation flags handed (faulty first files) law = tt
 answer_reads_back invocation flags handed (assembly.missing files) law = tt
 
-file_reads_back : Law → (invocation : Invocation) (contents : Contents) (file : Option (List ℕ)) → FileReadsBack invocation contents file
-file_reads_back law invocation contents None = tt
-file_reads_back law invocation contents (Some source) =
-    answer_reads_back invocation (flags_by invocation) (handed_of (flags_by invocation) contents invocation.file source) (assembly_of (flags_by invocation) contents invocation.file source)
-    (law (flags_by invocation) contents invocation.file source)
+file_reads_back : Law → (invocation : Invocation) (held : Synthesis) (contents : Contents) (file : Option (List ℕ)) → FileIsMade (flags_by invocation held) contents invocation.file file
+    → FileReadsBack invocation held contents file
+file_reads_back law invocation held contents None so = tt
+file_reads_back law invocation held contents (Some source) so =
+    answer_reads_back invocation (flags_by invocation held) (handed_of (flags_by invocation held) contents invocation.file source)
+    (assembly_of (flags_by invocation held) contents invocation.file source)
+    (λ made files is. law (flags_by invocation held) contents invocation.file source made files is so)
 
-invocation_reads_back : Law → (invocation : Invocation) (contents : Option Contents) → InvocationReadsBack invocation contents
-invocation_reads_back law invocation None = tt
-invocation_reads_back law invocation (Some contents) = file_reads_back law invocation contents (contents invocation.file)
+invocation_reads_back : Law → (invocation : Invocation) (held : Synthesis) (contents : Option Contents) → IsMade (flags_by invocation held) contents invocation.file
+    → InvocationReadsBack invocation held contents
+invocation_reads_back law invocation held None so = tt
+invocation_reads_back law invocation held (Some contents) so = file_reads_back law invocation held contents (contents invocation.file) so
 
 pub command_reads_back : ((flags : Flags) (contents : Contents) (name source : List ℕ) (made : NotedObject) (files : List (List ℕ))
-    → assembly_of flags contents name source ≡ assembled made files → ReadsBack flags (handed_of flags contents name source) made.object)
+    → assembly_of flags contents name source ≡ assembled made files → SourceIsMade flags contents name source → ReadsBack flags (handed_of flags contents name source) made.object)
     → (command : Option Invocation) (contents : Option Contents) → CommandReadsBack command contents
 command_reads_back law None contents = tt
-command_reads_back law (Some invocation) contents = invocation_reads_back law invocation contents
+command_reads_back law (Some invocation) contents = λ held so. invocation_reads_back law invocation held contents so

@@ -77,9 +77,9 @@ use Rattle.elf_object.specs.Image.{before_names, image_with, image_of}
 use Rattle.asm_front.specs.Ending.{finished}
 use Rattle.eh_frame.specs.Placing.{placed}
 use Rattle.asm_front.specs.Ending.{Flags}
-use Rattle.asm_front.specs.Knowing.{told_by, value_told, definition_told, meant_among, is_defined_in}
-use Rattle.asm_front.specs.Assembly.{Assembly, main_file, placed_after, assembly_by}
-use Rattle.asm_values.specs.State.{nothing_placed}
+use Rattle.asm_front.specs.Knowing.{value_told, definition_told, meant_among, is_defined_in}
+use Rattle.asm_front.specs.Assembly.{Assembly, main_file, nothing_yet, placed_after, told_of, assembly_by}
+use Rattle.asm_functions.specs.Followed.{place_followed}
 use Rattle.asm_lines.specs.Statements.{StatementAt}
 use Rattle.asm_lines.specs.NextStatements.{in_tokens}
 use Rattle.asm_lines.specs.declared.faults.LineCause.{LineCause}
@@ -96,7 +96,7 @@ use Rattle.macro_blocks.specs.Blocks.{depth_behind, stops, cut}
 use Rattle.asm_macro.specs.Expansion.{started, conditional, branch_end, conditional_end, repeat, each as each_copy_of, define, call, purge, after_call, exit, include, head, turn}
 use Rattle.asm_macro.specs.Placing.{steps, fails}
 use Rattle.clap.proofs.OnLiterals.{clap_on_literals}
-use Rattle.asm_run.specs.Words.{Invocation, as_app, asked_by, command_of, faults_of, invocation_of, rows_of_words, usage_text}
+use Rattle.asm_run.specs.Words.{Invocation, as_app, asked_by, command_of, faults_of, invocation_of, rows_of_words, taken_of, usage_text}
 use Rattle.asm_run.specs.Outcome.{Outcome, usage, missing, refused, object, flags_by, source_outcome, outcome}
 use Rattle.asm_relax.specs.Faults.{first_of}
 use Rattle.asm_symbols.specs.Looking.{told}
@@ -119,29 +119,29 @@ few_turns = 12
 -- what a source of these lines stands for, by so many turns of its list
 abbrev assembly_by_lines : Flags → Contents → Result (List StatementAt) LineCause → Assembly
 assembly_by_lines flags contents (Ok statements) =
-    assembly_by flags.fatal_warnings (codes "x.s")
-    (steps placed_after told_by (Some contents) few_turns (started (codes "x.s" ∷ []) (map in_tokens statements)) (nothing_placed flags.no_warn))
+    assembly_by flags (codes "x.s")
+    (steps placed_after told_of (Some contents) few_turns (started (codes "x.s" ∷ []) (map in_tokens statements)) (nothing_yet flags))
 assembly_by_lines flags contents (Err cause) =
-    assembly_by flags.fatal_warnings (codes "x.s") (fails (codes "x.s" ∷ []) (line_cause cause) (pos_at 0 (line_of_cause cause)) (nothing_placed flags.no_warn))
+    assembly_by flags (codes "x.s") (fails (codes "x.s" ∷ []) (line_cause cause) (pos_at 0 (line_of_cause cause)) (nothing_yet flags))
 
 -- what words stand for whose source is that file
 abbrev outcome_by : Option Invocation → List ℕ → Option Outcome
 outcome_by None source = Some usage
-outcome_by (Some invocation) source = Some (source_outcome invocation (assembly_by_lines (flags_by invocation) (one_file source) (statements_of main_file source)))
+outcome_by (Some invocation) source = Some (source_outcome invocation (assembly_by_lines (flags_by invocation (Ok [])) (one_file source) (statements_of main_file source)))
 
 abbrev outcome_of : List ℕ → Option Outcome
 outcome_of source = outcome_by (command_of (codes "as" ∷ codes "x.s" ∷ [])) source
 
-not_there : outcome (codes "as" ∷ codes "none.s" ∷ []) (one_source []) ≡ Some (missing [])
-unfolding command_of asked_by faults_of rows_of_words invocation_of as_app clap_on_literals
+not_there : outcome (codes "as" ∷ codes "none.s" ∷ []) (Ok []) (one_source []) ≡ Some (missing [])
+unfolding command_of asked_by faults_of rows_of_words taken_of invocation_of as_app clap_on_literals
 not_there = refl
 
-not_told : outcome (codes "as" ∷ codes "x.s" ∷ []) None ≡ None
-unfolding command_of asked_by faults_of rows_of_words invocation_of as_app clap_on_literals
+not_told : outcome (codes "as" ∷ codes "x.s" ∷ []) (Ok []) None ≡ None
+unfolding command_of asked_by faults_of rows_of_words taken_of invocation_of as_app clap_on_literals
 not_told = refl
 
-usage_untold : outcome (codes "as" ∷ codes "--zap" ∷ []) None ≡ Some usage
-unfolding command_of asked_by faults_of rows_of_words invocation_of as_app clap_on_literals
+usage_untold : outcome (codes "as" ∷ codes "--zap" ∷ []) (Ok []) None ≡ Some usage
+unfolding command_of asked_by faults_of rows_of_words taken_of invocation_of as_app clap_on_literals
 usage_untold = refl
 
 -- the bytes of the object
@@ -173,7 +173,7 @@ refused_rows : (outcome_of (codes "foo\nbar\n") ≡ Some (refused (codes "x.s: A
     × (outcome_of (codes ".byte 256\n.byte 1,511\nfoo") ≡ Some (refused (codes "x.s: Assembler messages:\nx.s:1: Warning: value is truncated\nx.s:2: Warning: value is truncated\nx.s:3: Error: unknown mnemonic\n") []))
     × (outcome_of (codes "nop\n/* x") ≡ Some (refused (codes "x.s: Assembler messages:\nx.s:2: Error: comment is not closed\n") []))
     × (flagged (codes "--fatal-warnings") (codes ".byte 256") ≡ Some (refused (codes "x.s: Assembler messages:\nx.s:1: Warning: value is truncated\nx.s:1: Error: warnings are treated as errors\n") []))
-unfolding command_of asked_by faults_of rows_of_words invocation_of as_app clap_on_literals statements_of statements_in comment_length quoted_length piece_kind piece_length pieces_from line_of trimmed nul_found source_found is_blank is_name_start is_name_byte is_operator_byte is_long_operator token_kind token_length tokens_from digits place place_labelled has_wide_label place_tokens place_label label_symbol symbol_name checked_name string_value_from place_body place_directive directive_of the_directives place_by place_instruction bare_instruction insn_of head_of att_mnemonic whole_mnemonic the_att_names the_rows bytes_of rex_bits rex_byte put_data place_data place_said say_all plain_of name_of each all_steps symbol_of next_symbol named defined bound spot_at extent_of put_bytes_into put_field_into push_into first_sections with_trees with_tree are_meant is_meant allowed name_here numeral spelled_number character_code digits_leaf leaf_of prefix_by operator_byte operator_bytes operator_by level_of height whole operand_of read_at reading linear unary_form binary_form combined with_term with_terms raised put_all settled expression_of form_in number_after digit_of fits low_bytes put_forms changed finished placed planned linked linked_map expanded_within expanded plus_terms settled_sections laid_by rows_of levels_of top shifts_of shifts_from shift_behind size_at shift_in section_size address_of final_told laid_value held_value told_in_field told_beside first_fault object_fault fields_fault section_bytes interleaved filled reference_found field_relocation named_of listed symbol_kind symbol_size said_along table_of image_of image_with file_with with_names all_names before_names file_of elf_header null_header header_table half word xword section_names string_table_of name_offsets symbol_names symbol_table_of first_of final_form told head turn steps word_in word_of the_words conditional branch_end conditional_end repeat each_copy_of define call purge after_call exit include verdict holds depth_behind stops cut made_statements value_text parameter_of parameters_of filled_once call_arguments argument_named put_by put_from file_statements value_told definition_told meant_among is_defined_in
+unfolding command_of asked_by faults_of rows_of_words taken_of invocation_of as_app clap_on_literals statements_of statements_in comment_length quoted_length piece_kind piece_length pieces_from line_of trimmed nul_found source_found is_blank is_name_start is_name_byte is_operator_byte is_long_operator token_kind token_length tokens_from digits place_followed place place_labelled has_wide_label place_tokens place_label label_symbol symbol_name checked_name string_value_from place_body place_directive directive_of the_directives place_by place_instruction bare_instruction insn_of head_of att_mnemonic whole_mnemonic the_att_names the_rows bytes_of rex_bits rex_byte put_data place_data place_said say_all plain_of name_of each all_steps symbol_of next_symbol named defined bound spot_at extent_of put_bytes_into put_field_into push_into first_sections with_trees with_tree are_meant is_meant allowed name_here numeral spelled_number character_code digits_leaf leaf_of prefix_by operator_byte operator_bytes operator_by level_of height whole operand_of read_at reading linear unary_form binary_form combined with_term with_terms raised put_all settled expression_of form_in number_after digit_of fits low_bytes put_forms changed finished placed planned linked linked_map expanded_within expanded plus_terms settled_sections laid_by rows_of levels_of top shifts_of shifts_from shift_behind size_at shift_in section_size address_of final_told laid_value held_value told_in_field told_beside first_fault object_fault fields_fault section_bytes interleaved filled reference_found field_relocation named_of listed symbol_kind symbol_size said_along table_of image_of image_with file_with with_names all_names before_names file_of elf_header null_header header_table half word xword section_names string_table_of name_offsets symbol_names symbol_table_of first_of final_form told head turn steps word_in word_of the_words conditional branch_end conditional_end repeat each_copy_of define call purge after_call exit include verdict holds depth_behind stops cut made_statements value_text parameter_of parameters_of filled_once call_arguments argument_named put_by put_from file_statements value_told definition_told meant_among is_defined_in
 refused_rows = (refl, refl, refl, refl)
 
 -- an empty source, an instruction, data with a label, a value that is cut and what is said of it, expressions, a value that just fits,
@@ -188,5 +188,5 @@ object_rows : (length_and_text 0 (outcome_of []) ≡ (584, []))
     × (length_and_text 1 (flagged (codes "--fatal-warnings") (codes ".byte 255")) ≡ (592, 255 ∷ []))
     × (length_and_text 4 (outcome_of (codes ".byte '/,'#;nop/*x*/;ret # c")) ≡ (592, 0x2f ∷ 0x23 ∷ 0x90 ∷ 0xc3 ∷ []))
     × (length_and_text 1 (outcome_of (codes "\"a b\": nop\n.globl \"a b\"")) ≡ (624, 0x90 ∷ []))
-unfolding command_of asked_by faults_of rows_of_words invocation_of as_app clap_on_literals statements_of statements_in comment_length quoted_length piece_kind piece_length pieces_from line_of trimmed nul_found source_found is_blank is_name_start is_name_byte is_operator_byte is_long_operator token_kind token_length tokens_from digits place place_labelled has_wide_label place_tokens place_label label_symbol symbol_name checked_name string_value_from place_body place_directive directive_of the_directives place_by place_instruction bare_instruction insn_of head_of att_mnemonic whole_mnemonic the_att_names the_rows bytes_of rex_bits rex_byte put_data place_data place_said say_all plain_of name_of each all_steps symbol_of next_symbol named defined bound spot_at extent_of put_bytes_into put_field_into push_into first_sections with_trees with_tree are_meant is_meant allowed name_here numeral spelled_number character_code digits_leaf leaf_of prefix_by operator_byte operator_bytes operator_by level_of height whole operand_of read_at reading linear unary_form binary_form combined with_term with_terms raised put_all settled expression_of form_in number_after digit_of fits low_bytes put_forms changed finished placed planned linked linked_map expanded_within expanded plus_terms settled_sections laid_by rows_of levels_of top shifts_of shifts_from shift_behind size_at shift_in section_size address_of final_told laid_value held_value told_in_field told_beside first_fault object_fault fields_fault section_bytes interleaved filled reference_found field_relocation named_of listed symbol_kind symbol_size said_along table_of image_of image_with file_with with_names all_names before_names file_of elf_header null_header header_table half word xword section_names string_table_of name_offsets symbol_names symbol_table_of first_of final_form told head turn steps word_in word_of the_words conditional branch_end conditional_end repeat each_copy_of define call purge after_call exit include verdict holds depth_behind stops cut made_statements value_text parameter_of parameters_of filled_once call_arguments argument_named put_by put_from file_statements value_told definition_told meant_among is_defined_in
+unfolding command_of asked_by faults_of rows_of_words taken_of invocation_of as_app clap_on_literals statements_of statements_in comment_length quoted_length piece_kind piece_length pieces_from line_of trimmed nul_found source_found is_blank is_name_start is_name_byte is_operator_byte is_long_operator token_kind token_length tokens_from digits place_followed place place_labelled has_wide_label place_tokens place_label label_symbol symbol_name checked_name string_value_from place_body place_directive directive_of the_directives place_by place_instruction bare_instruction insn_of head_of att_mnemonic whole_mnemonic the_att_names the_rows bytes_of rex_bits rex_byte put_data place_data place_said say_all plain_of name_of each all_steps symbol_of next_symbol named defined bound spot_at extent_of put_bytes_into put_field_into push_into first_sections with_trees with_tree are_meant is_meant allowed name_here numeral spelled_number character_code digits_leaf leaf_of prefix_by operator_byte operator_bytes operator_by level_of height whole operand_of read_at reading linear unary_form binary_form combined with_term with_terms raised put_all settled expression_of form_in number_after digit_of fits low_bytes put_forms changed finished placed planned linked linked_map expanded_within expanded plus_terms settled_sections laid_by rows_of levels_of top shifts_of shifts_from shift_behind size_at shift_in section_size address_of final_told laid_value held_value told_in_field told_beside first_fault object_fault fields_fault section_bytes interleaved filled reference_found field_relocation named_of listed symbol_kind symbol_size said_along table_of image_of image_with file_with with_names all_names before_names file_of elf_header null_header header_table half word xword section_names string_table_of name_offsets symbol_names symbol_table_of first_of final_form told head turn steps word_in word_of the_words conditional branch_end conditional_end repeat each_copy_of define call purge after_call exit include verdict holds depth_behind stops cut made_statements value_text parameter_of parameters_of filled_once call_arguments argument_named put_by put_from file_statements value_told definition_told meant_among is_defined_in
 object_rows = (refl, refl, refl, refl, refl, refl, refl, refl, refl, refl)

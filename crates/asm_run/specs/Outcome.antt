@@ -1,9 +1,12 @@
 -- What a command line stands for.
-use Rattle.std.specs.Prelude.{ℕ, List, [], drop, Option, None, Some}
+use Rattle.std.specs.Prelude.{ℕ, List, [], drop, Option, None, Some, if◌then◌else◌}
 use Rattle.asm_base.specs.Inputs.{Contents}
 use Rattle.asm_base.specs.Messages.{remarks, refusal}
 use Rattle.asm_front.specs.Ending.{Flags}
-use Rattle.asm_front.specs.Assembly.{Assembly, assembled, faulty, assembly_of}
+use Rattle.asm_base.specs.declared.statuses.Status.{Status}
+use Rattle.asm_base.specs.declared.statuses.Status.TheVariants.{Done, SourceFault, Usage, ReadFault, WriteFault, NoMemory}
+use Rattle.asm_front.specs.Synthesis.{Synthesis}
+use Rattle.asm_front.specs.Assembly.{Assembly, assembled, faulty, assembly_of, IsMade}
 use Rattle.asm_front.specs.Assembly as assembly
 use Rattle.asm_run.specs.Words.{Invocation, command_of}
 
@@ -18,9 +21,13 @@ pub data Outcome : Type 0 where
   -- the source has an object, and starts these files
   object : (name bytes messages : List ℕ) (included : List (List ℕ)) → Outcome
 
--- what the invocation asks of the assembly
-abbrev pub flags_by : Invocation → Flags
-flags_by invocation = record { no_warn = invocation.no_warn; fatal_warnings = invocation.fatal_warnings }
+-- what the invocation asks of the assembly, where synthesis, if it is asked for, comes to this
+abbrev pub flags_by : Invocation → Synthesis → Flags
+flags_by invocation made = record {
+  no_warn = invocation.no_warn;
+  fatal_warnings = invocation.fatal_warnings;
+  scfi = if invocation.scfi then Some made else None;
+}
 
 -- what a source of this assembly stands for
 abbrev pub source_outcome : Invocation → Assembly → Outcome
@@ -30,20 +37,37 @@ source_outcome invocation (faulty first files) = refused (refusal files first.no
 source_outcome invocation (assembly.missing files) = missing (drop 1 files)
 
 -- what the contents of the source's name stand for, if there are any, with those of the files that it starts
-abbrev pub file_outcome : Invocation → Contents → Option (List ℕ) → Outcome
-file_outcome invocation contents None = missing []
-file_outcome invocation contents (Some source) = source_outcome invocation (assembly_of (flags_by invocation) contents invocation.file source)
+abbrev pub file_outcome : Invocation → Synthesis → Contents → Option (List ℕ) → Outcome
+file_outcome invocation made contents None = missing []
+file_outcome invocation made contents (Some source) = source_outcome invocation (assembly_of (flags_by invocation made) contents invocation.file source)
 
 -- what the invocation stands for, where the contents are told
-abbrev pub invocation_outcome : Invocation → Option Contents → Option Outcome
-invocation_outcome invocation None = None
-invocation_outcome invocation (Some contents) = Some (file_outcome invocation contents (contents invocation.file))
+abbrev pub invocation_outcome : Invocation → Synthesis → Option Contents → Option Outcome
+invocation_outcome invocation made None = None
+invocation_outcome invocation made (Some contents) = Some (file_outcome invocation made contents (contents invocation.file))
 
 -- what the words stand for, where they are a command and where they are none
-abbrev pub command_outcome : Option Invocation → Option Contents → Option Outcome
-command_outcome None contents = Some usage
-command_outcome (Some invocation) contents = invocation_outcome invocation contents
+abbrev pub command_outcome : Option Invocation → Synthesis → Option Contents → Option Outcome
+command_outcome None made contents = Some usage
+command_outcome (Some invocation) made contents = invocation_outcome invocation made contents
 
--- what the words stand for: usage, told or not, and all else where the contents are told
-abbrev pub outcome : List (List ℕ) → Option Contents → Option Outcome
-outcome words contents = command_outcome (command_of words) contents
+-- what the words stand for, where synthesis, if it is asked for, comes to this: usage, told or not, and all else where the contents are told
+abbrev pub outcome : List (List ℕ) → Synthesis → Option Contents → Option Outcome
+outcome words made contents = command_outcome (command_of words) made contents
+
+-- WHAT SYNTHESIS COMES TO
+
+-- synthesis comes to this for the source that a command names, if it is asked for and the source comes to its end
+abbrev pub CommandIsMade : Option Invocation → Option Contents → Synthesis → Type 0
+CommandIsMade None contents made = Unit {0}
+CommandIsMade (Some invocation) contents made = IsMade (flags_by invocation made) contents invocation.file
+
+-- this holds of what a command stands for, with what synthesis comes to; where the input failed or memory ran out it is not known to what that would be, and this
+-- holds with all
+abbrev pub CommandHolds : Option Invocation → Option Contents → Status → (Synthesis → Option Outcome → Type 0) → Type 0
+CommandHolds command contents ReadFault Holds = (made : Synthesis) → Holds made (command_outcome command made contents)
+CommandHolds command contents NoMemory Holds = (made : Synthesis) → Holds made (command_outcome command made contents)
+CommandHolds command contents Done Holds = (made : Synthesis) × CommandIsMade command contents made × Holds made (command_outcome command made contents)
+CommandHolds command contents SourceFault Holds = (made : Synthesis) × CommandIsMade command contents made × Holds made (command_outcome command made contents)
+CommandHolds command contents Usage Holds = (made : Synthesis) × CommandIsMade command contents made × Holds made (command_outcome command made contents)
+CommandHolds command contents WriteFault Holds = (made : Synthesis) × CommandIsMade command contents made × Holds made (command_outcome command made contents)

@@ -2,6 +2,7 @@
 use Rattle.std.specs.Prelude.{ℕ, List, Option, None, Some}
 use Rattle.asm_base.specs.Inputs.{Contents}
 use Rattle.asm_lines.specs.NextStatements.{TokenStatement}
+use Rattle.asm_front.specs.Synthesis.{Synthesis}
 use Rattle.asm_front.specs.Assembly.{handed_of}
 use Rattle.asm_front.specs.Ending.{Flags}
 use Rattle.asm_front.specs.Fitting.{ObjectIsReadable}
@@ -14,17 +15,17 @@ OutcomeIsReadable flags handed (object name bytes messages included) = ObjectIsR
 OutcomeIsReadable flags handed _ = Unit {0}
 
 -- the same of the file of the name, and of the statements that its expansion hands out
-abbrev pub FileIsReadable : Invocation → Contents → Option (List ℕ) → Type 0
-FileIsReadable invocation contents None = Unit {0}
-FileIsReadable invocation contents (Some source) =
-    OutcomeIsReadable (flags_by invocation) (handed_of (flags_by invocation) contents invocation.file source) (file_outcome invocation contents (Some source))
+abbrev pub FileIsReadable : Invocation → Synthesis → Contents → Option (List ℕ) → Type 0
+FileIsReadable invocation made contents None = Unit {0}
+FileIsReadable invocation made contents (Some source) =
+    OutcomeIsReadable (flags_by invocation made) (handed_of (flags_by invocation made) contents invocation.file source) (file_outcome invocation made contents (Some source))
 
 -- the same of the invocation, where the contents are known
-abbrev pub InvocationIsReadable : Invocation → Option Contents → Type 0
-InvocationIsReadable invocation None = Unit {0}
-InvocationIsReadable invocation (Some contents) = FileIsReadable invocation contents (contents invocation.file)
+abbrev pub InvocationIsReadable : Invocation → Synthesis → Option Contents → Type 0
+InvocationIsReadable invocation made None = Unit {0}
+InvocationIsReadable invocation made (Some contents) = FileIsReadable invocation made contents (contents invocation.file)
 
 -- the same of words that are a command
-abbrev pub CommandIsReadable : Option Invocation → Option Contents → Type 0
-CommandIsReadable None contents = Unit {0}
-CommandIsReadable (Some invocation) contents = InvocationIsReadable invocation contents
+abbrev pub CommandIsReadable : Option Invocation → Synthesis → Option Contents → Type 0
+CommandIsReadable None made contents = Unit {0}
+CommandIsReadable (Some invocation) made contents = InvocationIsReadable invocation made contents

@@ -1,5 +1,5 @@
 -- The words of a command line, as the crate `clap` reads them for one command.
-use Rattle.std.specs.Prelude.{ℕ, Bool, false, List, [], ◌∷◌, Option, None, Some, codes, unwrap_or, if◌then◌else◌}
+use Rattle.std.specs.Prelude.{ℕ, Bool, true, false, List, [], ◌∷◌, Option, None, Some, codes, is_some, unwrap_or, if◌then◌else◌}
 use Rattle.std.specs.Option.{option_map_or}
 use Rattle.std.specs.Str.{bytes_eq}
 use Rattle.clap.specs.Words.{App, Kinds, Row, Rule, fault_of, first_of, matches_of, new_app, new_rule, with_rule}
@@ -13,13 +13,17 @@ object_rule = record (new_rule (codes "object")) { short = Some 111 }
 abbrev pub flag_rule : List ℕ → Rule
 flag_rule name = record (new_rule name) { long = Some name; action = Some SetTrue }
 
+-- `--scfi VALUE`, or `--scfi=VALUE`
+abbrev pub scfi_rule : Rule
+scfi_rule = record (new_rule (codes "scfi")) { long = Some (codes "scfi") }
+
 -- `-W`, or `--no-warn`
 abbrev pub no_warn_rule : Rule
 no_warn_rule = record (flag_rule (codes "no-warn")) { short = Some 87 }
 
--- `as [-o FILE] [--64] [-W|--no-warn] [--fatal-warnings] [FILE]`; clap adds `-h` and `--help`, at which it reads no command
+-- `as [-o FILE] [--64] [--scfi VALUE] [-W|--no-warn] [--fatal-warnings] [FILE]`; clap adds `-h` and `--help`, at which it reads no command
 unfoldable pub as_app : App
-as_app = with_rule (with_rule (with_rule (with_rule (with_rule (new_app (codes "as")) object_rule) (flag_rule (codes "64"))) no_warn_rule)
+as_app = with_rule (with_rule (with_rule (with_rule (with_rule (with_rule (new_app (codes "as")) object_rule) (flag_rule (codes "64"))) scfi_rule) no_warn_rule)
     (flag_rule (codes "fatal-warnings"))) (new_rule (codes "file"))
 
 -- the kind of the first fault for which the words are no command, or nothing where they are one
@@ -34,6 +38,7 @@ rows_of_words words = matches_of as_app words
 pub record Invocation : Type 0 where
   pub file : List ℕ
   pub object : List ℕ
+  pub scfi : Bool
   pub no_warn : Bool
   pub fatal_warnings : Bool
 
@@ -50,18 +55,28 @@ unfoldable pub invocation_of : List Row → Invocation
 invocation_of rows = record {
   file = option_map_or source_of (first_of (codes "file") rows) [];
   object = unwrap_or (first_of (codes "object") rows) (codes "a.out");
+  scfi = is_some (first_of (codes "scfi") rows);
   no_warn = is_on (first_of (codes "no-warn") rows);
   fatal_warnings = is_on (first_of (codes "fatal-warnings") rows);
 }
 
+-- `--scfi` takes one value
+abbrev pub is_scfi : Option (List ℕ) → Bool
+is_scfi None = true
+is_scfi (Some value) = bytes_eq value (codes "experimental")
+
+-- what the values ask for, unless that of `--scfi` is another
+unfoldable pub taken_of : List Row → Option Invocation
+taken_of rows = if is_scfi (first_of (codes "scfi") rows) then Some (invocation_of rows) else None
+
 -- the values, where no step of the reading fails
-abbrev pub unless_fault : Kinds → Invocation → Option Invocation
-unless_fault [] invocation = Some invocation
-unless_fault (kind ∷ kinds) invocation = None
+abbrev pub unless_fault : Kinds → Option Invocation → Option Invocation
+unless_fault [] asked = asked
+unless_fault (kind ∷ kinds) asked = None
 
 -- what the words ask for, where clap's command takes them
 unfoldable pub asked_by : List (List ℕ) → Option Invocation
-asked_by words = unless_fault (faults_of words) (invocation_of (rows_of_words words))
+asked_by words = unless_fault (faults_of words) (taken_of (rows_of_words words))
 
 -- what the words ask for, where they are a command; no words at all are none
 unfoldable pub command_of : List (List ℕ) → Option Invocation

@@ -1,11 +1,12 @@
 //! One run, from the words of the command line to the answer.
 
-ghost use Rattle.std.specs.Prelude.{◌≡◌, ◌≤◌, ◌⊎◌, ◌↔◌, [], map, None, IfOk, OnOk, OnErr, string_bytes};
+ghost use Rattle.std.specs.Prelude.{◌≡◌, ◌≤◌, ◌⊎◌, ◌↔◌, [], map, None, Some, IfOk, OnOk, OnErr, string_bytes};
 ghost use Rattle.std.specs.Io.KnownBytes.{IsAtEnd};
 ghost use Rattle.asm_base.specs.Counts.{HasCause, HasRisen, IsQuiet};
 ghost use Rattle.asm_run.specs.Words.{command_of, file_of, output_of};
 ghost use Rattle.asm_run.specs.Invoked.{invoked};
-ghost use Rattle.asm_run.specs.Outcome.{invocation_outcome, outcome};
+ghost use Rattle.asm_front.specs.Synthesis.{Synthesis};
+ghost use Rattle.asm_run.specs.Outcome.{CommandHolds, CommandIsMade, invocation_outcome, outcome};
 ghost use Rattle.asm_run.specs.Readable.{CommandIsReadable, InvocationIsReadable};
 ghost use Rattle.asm_run.specs.ReadsBack.{CommandReadsBack};
 ghost use Rattle.asm_run.specs.Answers.{Answers, Completes, CountsMissingOutcome, MakesFile, MakesFileInPart, MakesInPart, MakesObject, ReadsAll, StartsFront};
@@ -13,7 +14,7 @@ ghost use Rattle.asm_run.specs.Answers.{Answers, Completes, CountsMissingOutcome
 use crate::saying::say_all;
 use crate::words::{Invocation, read_command};
 use asm_base::{Channel, Console, Failed, Inputs, NoMemory, Output, Status, refusal, remarks};
-use asm_front::{AsmFault, Options, assemble, written_reads_back};
+use asm_front::{AsmFault, Options, assemble, synthesis_is_one, written_reads_back};
 use elf_object::Object;
 use std::alloc::{AllocError, Global};
 
@@ -25,12 +26,13 @@ const USAGE: &[u8] =
 fn options_for(alloc: Global, invocation: Invocation) -> Result<Options, NoMemory>
     ensures file { IfOk result (λ options. string_bytes options.file ≡ invocation.entry.file.now) }
     ensures no_warn { IfOk result (λ options. options.no_warn ≡ invocation.entry.no_warn) }
+    ensures scfi { IfOk result (λ options. options.scfi ≡ invocation.entry.scfi) }
     ensures fatal_warnings { IfOk result (λ options.
         options.fatal_warnings ≡ invocation.entry.fatal_warnings) }
 {
     Ok(Options {
         file: String::from_str(alloc, invocation.file)?,
-        scfi: false,
+        scfi: invocation.scfi,
         no_warn: invocation.no_warn,
         fatal_warnings: invocation.fatal_warnings,
     })
@@ -83,7 +85,7 @@ pub fn deliver<O: Output, C: Console>(
 }
 
 /// Assembles the source that is asked for.
-#[tactic(auto, using(crate::proofs::Deliveries::delivered, crate::proofs::Deliveries::made_in_part, crate::proofs::Deliveries::told, crate::proofs::Deliveries::told_in_part, crate::proofs::StartedFiles::missed, crate::proofs::StartedFiles::none_started, crate::proofs::StartedFiles::all_read, crate::proofs::ReadableObjects::object_found, crate::proofs::StartedFiles::starts_front, crate::proofs::StartedFiles::starts_none))]
+#[tactic(auto, using(crate::proofs::StandingOutcomes::object_made, crate::proofs::StandingOutcomes::source_refused, crate::proofs::StandingOutcomes::files_read, crate::proofs::StandingOutcomes::found, crate::proofs::StandingOutcomes::all_missed, crate::proofs::StandingOutcomes::all_started, crate::proofs::StandingOutcomes::read_lost, crate::proofs::StandingOutcomes::memory_lost, crate::proofs::StartedFiles::none_started, crate::proofs::StartedFiles::starts_none))]
 fn run_source<I: Inputs, O: Output, C: Console>(
     alloc: Global,
     invocation: Invocation,
@@ -91,13 +93,13 @@ fn run_source<I: Inputs, O: Output, C: Console>(
     obj: &mut O,
     con: &mut C,
 ) -> Status
-    ensures answer { Answers invocation.entry.object.now
-        (invocation_outcome (invoked invocation.entry) (I.contents ins.old)) result (record {
+    ensures answer { CommandHolds (Some (invoked invocation.entry)) (I.contents ins.old) result
+        (λ made outcome. Answers invocation.entry.object.now outcome result (record {
           said = C.said con.old;
           said_after = C.said con.new;
           made = O.made obj.old;
           made_after = O.made obj.new;
-        }) }
+        })) }
     ensures read_fault { result ≡ Status.ReadFault
         → HasRisen (I.faults ins.old) (I.faults ins.new) }
     ensures write_fault { result ≡ Status.WriteFault
@@ -113,19 +115,22 @@ fn run_source<I: Inputs, O: Output, C: Console>(
     ensures output_count { O.faults obj.old ≤ O.faults obj.new }
     ensures console_count { C.faults con.old ≤ C.faults con.new }
     ensures readable { result ≡ Status.Done
-        → InvocationIsReadable (invoked invocation.entry) (I.contents ins.old) }
-    ensures missing { CountsMissingOutcome
-        (invocation_outcome (invoked invocation.entry) (I.contents ins.old))
+        → CommandHolds (Some (invoked invocation.entry)) (I.contents ins.old) result (λ made outcome.
+        InvocationIsReadable (invoked invocation.entry) made (I.contents ins.old)) }
+    ensures missing { (made : Synthesis) → CountsMissingOutcome
+        (invocation_outcome (invoked invocation.entry) made (I.contents ins.old))
         (I.missing ins.old) (I.missing ins.new) }
     ensures taken { I.taken ins.old ≤ I.taken ins.new }
     ensures contents { I.contents ins.new ≡ I.contents ins.old }
     ensures whole { result ≡ Status.Done → IsAtEnd (I.rest ins.new) }
-    ensures starts { StartsFront
-        (invocation_outcome (invoked invocation.entry) (I.contents ins.old)) invocation.entry.file.now
+    ensures starts { (made : Synthesis) → StartsFront
+        (invocation_outcome (invoked invocation.entry) made (I.contents ins.old))
+        invocation.entry.file.now
         (I.history ins.old) (I.history ins.new) (I.taken ins.old) (I.taken ins.new) }
-    ensures reads { result ≡ Status.Done → ReadsAll
-        (invocation_outcome (invoked invocation.entry) (I.contents ins.old)) invocation.entry.file.now
-        (I.history ins.old) (I.history ins.new) (I.taken ins.old) (I.taken ins.new) }
+    ensures reads { result ≡ Status.Done
+        → CommandHolds (Some (invoked invocation.entry)) (I.contents ins.old) result (λ made outcome.
+        ReadsAll outcome invocation.entry.file.now
+        (I.history ins.old) (I.history ins.new) (I.taken ins.old) (I.taken ins.new)) }
 {
     let options = match options_for(alloc, invocation) {
         Ok(options) => options,
@@ -154,7 +159,7 @@ fn run_source<I: Inputs, O: Output, C: Console>(
 }
 
 /// Reads the words, assembles the source that they name, says the messages, and makes the object.
-#[tactic(auto, unfolding(crate::specs::Words::usage_text), using(crate::proofs::ReadsBackAgain::command_reads_back, crate::proofs::StartedFiles::starts_none))]
+#[tactic(auto, unfolding(crate::specs::Words::usage_text), using(crate::proofs::OneOutcome::command_is_one, crate::proofs::ReadsBackAgain::command_reads_back, crate::proofs::StandingOutcomes::completes, crate::proofs::StandingOutcomes::memory_lost, crate::proofs::StandingOutcomes::usage_said, crate::proofs::StandingOutcomes::usage_cut, crate::proofs::StartedFiles::starts_none))]
 pub fn run<I: Inputs, O: Output, C: Console>(
     alloc: Global,
     words: &Vec<String>,
@@ -162,13 +167,20 @@ pub fn run<I: Inputs, O: Output, C: Console>(
     obj: &mut O,
     con: &mut C,
 ) -> Status
-    ensures answer { Answers (output_of (command_of (map string_bytes words.now.items)))
-        (outcome (map string_bytes words.now.items) (I.contents ins.old)) result (record {
+    // What the words stand for hangs on what synthesis comes to, where it is asked for. That is one thing: so is what they stand for.
+    ensures one { (one other : Synthesis)
+        → CommandIsMade (command_of (map string_bytes words.now.items)) (I.contents ins.old) one
+        → CommandIsMade (command_of (map string_bytes words.now.items)) (I.contents ins.old) other
+        → outcome (map string_bytes words.now.items) one (I.contents ins.old)
+        ≡ outcome (map string_bytes words.now.items) other (I.contents ins.old) }
+    ensures answer { CommandHolds (command_of (map string_bytes words.now.items))
+        (I.contents ins.old) result (λ made outcome.
+        Answers (output_of (command_of (map string_bytes words.now.items))) outcome result (record {
           said = C.said con.old;
           said_after = C.said con.new;
           made = O.made obj.old;
           made_after = O.made obj.new;
-        }) }
+        })) }
 
     // The cause of each answer: which counts of failures have risen, and which are as before.
     ensures read_fault { result ≡ Status.ReadFault
@@ -191,39 +203,44 @@ pub fn run<I: Inputs, O: Output, C: Console>(
     // Where no call fails, the status is that of the outcome; told or not, that of the words where the console is quiet.
     ensures complete { IsQuiet (I.faults ins.old) (I.faults ins.new)
         → IsQuiet (O.faults obj.old) (O.faults obj.new) → IsQuiet (C.faults con.old) (C.faults con.new)
-        → Completes (outcome (map string_bytes words.now.items) (I.contents ins.old)) result }
+        → CommandHolds (command_of (map string_bytes words.now.items)) (I.contents ins.old) result
+        (λ made outcome. Completes outcome result) }
     ensures usage { result ≡ Status.Usage → command_of (map string_bytes words.now.items) ≡ None }
     ensures usage_told { IsQuiet (C.faults con.old) (C.faults con.new)
         → command_of (map string_bytes words.now.items) ≡ None
         → (result ≡ Status.Usage) ⊎ (result ≡ Status.NoMemory) }
 
     // In the object that the words stand for, each instruction's place reads as the instruction that was handed out, and as no other,
-    // and the frame table as the rows that directives mean.
+    // and the frame table as the rows that directives mean, or as those that were worked out of functions.
     ensures reads_back { CommandReadsBack (command_of (map string_bytes words.now.items))
         (I.contents ins.old) }
 
     // All numbers of the object that was made fit their fields, and a reader finds its sections by their headers, where those places are.
     ensures readable { result ≡ Status.Done
-        → CommandIsReadable (command_of (map string_bytes words.now.items)) (I.contents ins.old) }
+        → CommandHolds (command_of (map string_bytes words.now.items)) (I.contents ins.old) result
+        (λ made outcome. CommandIsReadable (command_of (map string_bytes words.now.items)) made
+        (I.contents ins.old)) }
 
     // What is read.
-    ensures missing { CountsMissingOutcome
-        (outcome (map string_bytes words.now.items) (I.contents ins.old))
+    ensures missing { (made : Synthesis) → CountsMissingOutcome
+        (outcome (map string_bytes words.now.items) made (I.contents ins.old))
         (I.missing ins.old) (I.missing ins.new) }
     ensures taken { I.taken ins.old ≤ I.taken ins.new }
     ensures contents { I.contents ins.new ≡ I.contents ins.old }
     ensures whole { result ≡ Status.Done → IsAtEnd (I.rest ins.new) }
-    ensures starts { StartsFront (outcome (map string_bytes words.now.items) (I.contents ins.old))
+    ensures starts { (made : Synthesis)
+        → StartsFront (outcome (map string_bytes words.now.items) made (I.contents ins.old))
         (file_of (command_of (map string_bytes words.now.items)))
         (I.history ins.old) (I.history ins.new) (I.taken ins.old) (I.taken ins.new) }
     ensures reads { result ≡ Status.Done
-        → ReadsAll (outcome (map string_bytes words.now.items) (I.contents ins.old))
-        (file_of (command_of (map string_bytes words.now.items)))
-        (I.history ins.old) (I.history ins.new) (I.taken ins.old) (I.taken ins.new) }
+        → CommandHolds (command_of (map string_bytes words.now.items)) (I.contents ins.old) result
+        (λ made outcome. ReadsAll outcome (file_of (command_of (map string_bytes words.now.items)))
+        (I.history ins.old) (I.history ins.new) (I.taken ins.old) (I.taken ins.new)) }
     ensures usage_reads_nothing { command_of (map string_bytes words.now.items) ≡ None
         → ins.new ≡ ins.old }
 {
     written_reads_back();
+    synthesis_is_one();
     match read_command(alloc, words.as_slice()) {
         Ok(Some(invocation)) => run_source(alloc, invocation, ins, obj, con),
         Ok(None) => match say_all(con, Channel::Err, USAGE) {

@@ -4,7 +4,7 @@ ghost use Rattle.std.specs.Prelude.{◌≡◌, false, IfOk, map, string_bytes};
 ghost use Rattle.std.specs.Option.{option_map};
 ghost use Rattle.clap.specs.Words.{app_of, found_of, rows_of, rule_of};
 ghost use Rattle.asm_run.specs.Invoked.{invoked};
-ghost use Rattle.asm_run.specs.Words.{as_app, asked_by, command_of, flag_rule, invocation_of, is_on, source_of};
+ghost use Rattle.asm_run.specs.Words.{as_app, asked_by, command_of, flag_rule, invocation_of, is_on, is_scfi, scfi_rule, source_of, taken_of};
 
 use asm_base::NoMemory;
 use clap::error::ErrorKind;
@@ -16,6 +16,8 @@ use std::alloc::{AllocError, Global};
 pub struct Invocation<'a> {
     pub file: &'a str,
     pub object: &'a str,
+    /// Frame tables are to be worked out of functions.
+    pub scfi: bool,
     pub no_warn: bool,
     pub fatal_warnings: bool,
 }
@@ -28,18 +30,28 @@ fn flag<'a>(alloc: Global, name: &'a str) -> Arg<'a>
     Arg::new(alloc, name).long(name).action(ArgAction::SetTrue)
 }
 
+/// The option `--scfi`, which takes a value.
+fn scfi_option<'a>(alloc: Global) -> Arg<'a>
+    ensures rule { rule_of result ≡ scfi_rule }
+    ensures local { result.global ≡ false }
+{
+    Arg::new(alloc, "scfi").long("scfi")
+}
+
 /// The command that the words are read as.
 fn as_command<'a>(alloc: Global) -> Result<Command<'a>, AllocError>
     ensures { IfOk result (λ c. app_of c ≡ as_app) }
 {
     let object = Arg::new(alloc, "object").short('o');
     let wide = flag(alloc, "64");
+    let scfi = scfi_option(alloc);
     let no_warn = flag(alloc, "no-warn").short('W');
     let fatal_warnings = flag(alloc, "fatal-warnings");
     let file = Arg::new(alloc, "file");
     Command::new(alloc, "as")
         .arg(object)?
         .arg(wide)?
+        .arg(scfi)?
         .arg(no_warn)?
         .arg(fatal_warnings)?
         .arg(file)
@@ -73,8 +85,31 @@ fn invocation_of<'a>(matches: &ArgMatches<'a>) -> Invocation<'a>
             None => "",
         },
         object: matches.get_str("object").unwrap_or("a.out"),
+        scfi: matches.get_str("scfi").is_some(),
         no_warn: is_on(matches.get_str("no-warn")),
         fatal_warnings: is_on(matches.get_str("fatal-warnings")),
+    }
+}
+
+/// Whether `--scfi` takes the value, if there is one.
+fn is_scfi(value: Option<&str>) -> bool
+    ensures { result ≡ is_scfi (option_map (λ text. text.now) value.entry) }
+{
+    match value {
+        Some(text) => text == "experimental",
+        None => true,
+    }
+}
+
+/// What the matches ask for, unless `--scfi` has a value that it does not take.
+#[tactic(auto, unfolding(crate::specs::Words::taken_of), using(crate::proofs::Reading::first_text))]
+fn taken_of<'a>(matches: &ArgMatches<'a>) -> Option<Invocation<'a>>
+    ensures { option_map invoked result ≡ taken_of (rows_of (found_of matches.now)) }
+{
+    if is_scfi(matches.get_str("scfi")) {
+        Some(invocation_of(matches))
+    } else {
+        None
     }
 }
 
@@ -85,7 +120,7 @@ fn read_words<'a>(alloc: Global, words: &'a [String]) -> Result<Option<Invocatio
 {
     let command = as_command(alloc)?;
     match command.try_get_matches_from(words) {
-        Ok(matches) => Ok(Some(invocation_of(&matches))),
+        Ok(matches) => Ok(taken_of(&matches)),
         Err(error) => match error.kind() {
             ErrorKind::OutOfMemory => Err(AllocError),
             _ => Ok(None),

@@ -1,24 +1,69 @@
--- What is left where the output or the console fails.
-use Rattle.std.proofs.Common.{◌≡◌, refl, string_bytes}
-use Rattle.asm_front.specs.Outcome.{flags_of}
+-- What the answer of the assembly says of files and of the object, and what is left where the output or the console fails.
+use Rattle.std.proofs.Common.{refl}
 use Rattle.asm_run.specs.Invoked.{invoked}
-use Rattle.asm_run.specs.Outcome.{flags_by}
-use Rattle.asm_run.proofs.Deliveries.{made_in_part, told_in_part}
+use Rattle.asm_run.proofs.StandingOutcomes.{all_missed, all_started, found, object_begun, source_cut}
 use Rattle.asm_run.proofs.running.run_source.Goals as goal
 
 pub returns-in-Ok-remarks-clause-answer : goal.returns-in-Ok-remarks-clause-answer
 returns-in-Ok-remarks-clause-answer g c =
-    let asked : flags_of c.in-Ok.options ≡ flags_by (invoked c.args.invocation) = cc (c.in-Ok.ensures.no_warn, c.in-Ok.ensures.fatal_warnings) in
-    made_in_part (g.I.Inputs.contents c.args.ins.now) (invoked c.args.invocation) (flags_of c.in-Ok.options) (string_bytes c.in-Ok.options.file) c.in-Ok-assemble.made _ _
-    asked c.in-Ok.ensures.file c.in-Ok-assemble.ensures.outcome
-    (rw c.as_slice.ensures at c.in-Ok-remarks.ensures)
+    object_begun c.in-Ok.options (invoked c.args.invocation) (g.I.Inputs.contents c.args.ins.now) c.in-Ok.ensures.file c.in-Ok.ensures.no_warn c.in-Ok.ensures.fatal_warnings c.in-Ok.ensures.scfi
+    c.in-Ok-assemble.made _ _ c.in-Ok-assemble.ensures.outcome (rw c.as_slice.ensures at c.in-Ok-remarks.ensures)
     (rw c.as_slice-in-Ok-remarks.ensures at c.in-Err-deliver.ensures.err)
 
 pub returns-in-Ok-refusal-clause-answer : goal.returns-in-Ok-refusal-clause-answer
 returns-in-Ok-refusal-clause-answer g c =
-    let asked : flags_of c.in-Ok.options ≡ flags_by (invoked c.args.invocation) = cc (c.in-Ok.ensures.no_warn, c.in-Ok.ensures.fatal_warnings) in
-    told_in_part (g.I.Inputs.contents c.args.ins.now) (invoked c.args.invocation) (flags_of c.in-Ok.options) (string_bytes c.in-Ok.options.file)
+    source_cut c.in-Ok.options (invoked c.args.invocation) (g.I.Inputs.contents c.args.ins.now) c.in-Ok.ensures.file c.in-Ok.ensures.no_warn c.in-Ok.ensures.fatal_warnings c.in-Ok.ensures.scfi
     c.in-Err-Source.fault c.in-Err-Source.pos c.in-Err-Source.notes c.in-Err-Source.files c.in-Ok-refusal.text _
-    asked c.in-Ok.ensures.file (rw c.in-Err-Source.field-0-is at c.in-Err-Source.ensures.outcome)
+    (rw c.in-Err-Source.field-0-is at c.in-Err-Source.ensures.outcome)
     (rw c.as_slice-in-Err-Source.ensures at c.in-Ok-refusal.ensures)
     (rw c.as_slice-in-Ok-refusal.ensures at c.say_all.ensures.prefix, refl)
+
+pub returns-in-Ok-deliver-clause-readable : goal.returns-in-Ok-deliver-clause-readable
+returns-in-Ok-deliver-clause-readable g c = λ done.
+    found c.in-Ok.options (invoked c.args.invocation) (g.I.Inputs.contents c.args.ins.now) c.in-Ok.ensures.file c.in-Ok.ensures.no_warn c.in-Ok.ensures.fatal_warnings c.in-Ok.ensures.scfi
+    c.in-Ok-assemble.made c.in-Ok-assemble.ensures.outcome
+
+pub returns-in-Err-Read-clause-missing : goal.returns-in-Err-Read-clause-missing
+returns-in-Err-Read-clause-missing g c =
+    all_missed c.in-Ok.options (invoked c.args.invocation) (g.I.Inputs.contents c.args.ins.now) c.in-Ok.ensures.file c.in-Ok.ensures.no_warn c.in-Ok.ensures.fatal_warnings c.in-Ok.ensures.scfi
+    (g.I.Inputs.missing c.args.ins.now) (g.I.Inputs.missing c.assemble.new.ins) c.assemble.ensures.missing
+
+pub returns-in-Ok-deliver-clause-starts : goal.returns-in-Ok-deliver-clause-starts
+returns-in-Ok-deliver-clause-starts g c =
+    all_started c.in-Ok.options (invoked c.args.invocation) (g.I.Inputs.contents c.args.ins.now) c.in-Ok.ensures.file c.in-Ok.ensures.no_warn c.in-Ok.ensures.fatal_warnings c.in-Ok.ensures.scfi
+    (g.I.Inputs.history c.args.ins.now) (g.I.Inputs.history c.assemble.new.ins) (g.I.Inputs.taken c.args.ins.now) (g.I.Inputs.taken c.assemble.new.ins) c.assemble.ensures.starts
+
+pub returns-in-Ok-remarks-clause-starts : goal.returns-in-Ok-remarks-clause-starts
+returns-in-Ok-remarks-clause-starts g c =
+    all_started c.in-Ok.options (invoked c.args.invocation) (g.I.Inputs.contents c.args.ins.now) c.in-Ok.ensures.file c.in-Ok.ensures.no_warn c.in-Ok.ensures.fatal_warnings c.in-Ok.ensures.scfi
+    (g.I.Inputs.history c.args.ins.now) (g.I.Inputs.history c.assemble.new.ins) (g.I.Inputs.taken c.args.ins.now) (g.I.Inputs.taken c.assemble.new.ins) c.assemble.ensures.starts
+
+pub returns-in-Ok-assemble-clause-starts : goal.returns-in-Ok-assemble-clause-starts
+returns-in-Ok-assemble-clause-starts g c =
+    all_started c.in-Ok.options (invoked c.args.invocation) (g.I.Inputs.contents c.args.ins.now) c.in-Ok.ensures.file c.in-Ok.ensures.no_warn c.in-Ok.ensures.fatal_warnings c.in-Ok.ensures.scfi
+    (g.I.Inputs.history c.args.ins.now) (g.I.Inputs.history c.assemble.new.ins) (g.I.Inputs.taken c.args.ins.now) (g.I.Inputs.taken c.assemble.new.ins) c.assemble.ensures.starts
+
+pub returns-in-Ok-say_all-clause-starts : goal.returns-in-Ok-say_all-clause-starts
+returns-in-Ok-say_all-clause-starts g c =
+    all_started c.in-Ok.options (invoked c.args.invocation) (g.I.Inputs.contents c.args.ins.now) c.in-Ok.ensures.file c.in-Ok.ensures.no_warn c.in-Ok.ensures.fatal_warnings c.in-Ok.ensures.scfi
+    (g.I.Inputs.history c.args.ins.now) (g.I.Inputs.history c.assemble.new.ins) (g.I.Inputs.taken c.args.ins.now) (g.I.Inputs.taken c.assemble.new.ins) c.assemble.ensures.starts
+
+pub returns-in-Ok-refusal-clause-starts : goal.returns-in-Ok-refusal-clause-starts
+returns-in-Ok-refusal-clause-starts g c =
+    all_started c.in-Ok.options (invoked c.args.invocation) (g.I.Inputs.contents c.args.ins.now) c.in-Ok.ensures.file c.in-Ok.ensures.no_warn c.in-Ok.ensures.fatal_warnings c.in-Ok.ensures.scfi
+    (g.I.Inputs.history c.args.ins.now) (g.I.Inputs.history c.assemble.new.ins) (g.I.Inputs.taken c.args.ins.now) (g.I.Inputs.taken c.assemble.new.ins) c.assemble.ensures.starts
+
+pub returns-in-Err-Source-clause-starts : goal.returns-in-Err-Source-clause-starts
+returns-in-Err-Source-clause-starts g c =
+    all_started c.in-Ok.options (invoked c.args.invocation) (g.I.Inputs.contents c.args.ins.now) c.in-Ok.ensures.file c.in-Ok.ensures.no_warn c.in-Ok.ensures.fatal_warnings c.in-Ok.ensures.scfi
+    (g.I.Inputs.history c.args.ins.now) (g.I.Inputs.history c.assemble.new.ins) (g.I.Inputs.taken c.args.ins.now) (g.I.Inputs.taken c.assemble.new.ins) c.assemble.ensures.starts
+
+pub returns-in-Err-Read-clause-starts : goal.returns-in-Err-Read-clause-starts
+returns-in-Err-Read-clause-starts g c =
+    all_started c.in-Ok.options (invoked c.args.invocation) (g.I.Inputs.contents c.args.ins.now) c.in-Ok.ensures.file c.in-Ok.ensures.no_warn c.in-Ok.ensures.fatal_warnings c.in-Ok.ensures.scfi
+    (g.I.Inputs.history c.args.ins.now) (g.I.Inputs.history c.assemble.new.ins) (g.I.Inputs.taken c.args.ins.now) (g.I.Inputs.taken c.assemble.new.ins) c.assemble.ensures.starts
+
+pub returns-clause-starts : goal.returns-clause-starts
+returns-clause-starts g c =
+    all_started c.in-Ok.options (invoked c.args.invocation) (g.I.Inputs.contents c.args.ins.now) c.in-Ok.ensures.file c.in-Ok.ensures.no_warn c.in-Ok.ensures.fatal_warnings c.in-Ok.ensures.scfi
+    (g.I.Inputs.history c.args.ins.now) (g.I.Inputs.history c.assemble.new.ins) (g.I.Inputs.taken c.args.ins.now) (g.I.Inputs.taken c.assemble.new.ins) c.assemble.ensures.starts

@@ -11,6 +11,7 @@ returns c =
     let no_warn : rule_of c.short-no_warn.result ≡ no_warn_rule = rw c.short-no_warn.ensures (search (rules, c.flag.ensures.rule)) in
     let one = c.in_ok-arg.ensures.shape (rw c.short-object.ensures c.new.ensures.optional.1) ∙ ap₂ with_rule c.new-2.ensures.app object in
     let two = c.in_ok-arg-2.ensures.shape c.flag-wide.ensures.local ∙ ap₂ with_rule one c.flag-wide.ensures.rule in
-    let three = c.in_ok-arg-3.ensures.shape (rw c.short-no_warn.ensures c.flag.ensures.local) ∙ ap₂ with_rule two no_warn in
-    let four = c.in_ok-arg-4.ensures.shape c.flag-fatal_warnings.ensures.local ∙ ap₂ with_rule three c.flag-fatal_warnings.ensures.rule in
-    IfOk-weaker c.arg-5.result _ _ (λ r added. added.shape c.new-file.ensures.optional.1 ∙ ap₂ with_rule four c.new-file.ensures.rule) c.arg-5.ensures
+    let three = c.in_ok-arg-3.ensures.shape c.scfi_option-scfi.ensures.local ∙ ap₂ with_rule two c.scfi_option-scfi.ensures.rule in
+    let four = c.in_ok-arg-4.ensures.shape (rw c.short-no_warn.ensures c.flag.ensures.local) ∙ ap₂ with_rule three no_warn in
+    let five = c.in_ok-arg-5.ensures.shape c.flag-fatal_warnings.ensures.local ∙ ap₂ with_rule four c.flag-fatal_warnings.ensures.rule in
+    IfOk-weaker c.arg-6.result _ _ (λ r added. added.shape c.new-file.ensures.optional.1 ∙ ap₂ with_rule five c.new-file.ensures.rule) c.arg-6.ensures
