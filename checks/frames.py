@@ -8,6 +8,8 @@ makes by itself. Both assemblers take what it writes as it is. Compared are the 
 place on they hold, the CFA, and the rule of each register. GNU as may have more common entries, so bytes are not compared. Where it lays out a text in another way (over an
 alignment a jump may be shorter), the rows are compared without their places. Then `checks/backtrace.c` is
 assembled, linked and run, and prints what it prints where GNU as assembled it: who called whom, as libgcc's unwinder finds it.
+Last the programs are compiled without jump tables, cold parts and sibling calls, and our assembler works the tables out without gcc's directives
+(`--scfi=experimental`). At each instruction the frame address and the slots of registers are those of gcc's table, where both tell them by the same registers.
 Prints a line for each difference, and where it is kept, and ends with 1 where there is one. A source in Intel syntax that uses `ds:`, or
 that GNU as refuses, is passed over.
 
@@ -26,9 +28,16 @@ from programs import c_program, first_error, must, run  # noqa: E402
 
 COMPILE = ["gcc", "-S", "-w", "-g0", "-mtune=nehalem"]
 WAYS = [["-O0"], ["-O2"], ["-O0", "-masm=intel"], ["-O2", "-masm=intel"]]
+PLAIN = ["-fno-jump-tables", "-fno-reorder-blocks-and-partition", "-fno-optimize-sibling-calls"]
+PLAIN_WAYS = [["-O0", *PLAIN], ["-O2", *PLAIN]]
 HERE = pathlib.Path(__file__).resolve().parent
 ENTRY = re.compile(r"^[0-9a-f]+ [0-9a-f]+ [0-9a-f]+ FDE cie=[0-9a-f]+ pc=([0-9a-f]+)\.\.([0-9a-f]+)")
 ROW = re.compile(r"^([0-9a-f]{16}) (.*)$")
+INSTRUCTION = re.compile(r"^ *([0-9a-f]+):\t", re.MULTILINE)
+DIRECTIVE = re.compile(r"^\t\.cfi_.*\n", re.MULTILINE)
+
+# The row of the common entry.
+COMMON = ("0", "rsp+8", "ra=c-8")
 
 # GNU as refuses the text: words of Intel syntax, as `near`, are no names of functions there.
 PASSED_OVER = "GNU as refuses it"
@@ -107,6 +116,50 @@ def backtrace_fault(ours: str, gnu: str, way: list[str], folder: pathlib.Path) -
     return None if b"3 main" in printed[0][1] else f"libgcc finds no way to main: {printed[0]}"
 
 
+class Worked:
+    """What came of tables that were worked out: instructions compared, those whose frame address is told by another register, and sources refused."""
+
+    def __init__(self) -> None:
+        self.sources = self.instructions = self.others = self.refused = 0
+
+    def fault(self, ours: str, folder: pathlib.Path) -> str | None:
+        """Assembles x.s in the folder with its directives and without them. Answers what is wrong with the table that is worked out."""
+        text = (folder / "x.s").read_text(encoding="ascii")
+        (folder / "y.s").write_text(DIRECTIVE.sub("", text), encoding="ascii")
+        must([ours, "-o", "written.o", "x.s"], folder)
+        self.sources += 1
+        assembled = run([ours, "--scfi=experimental", "-o", "worked.o", "y.s"], folder)
+        if assembled.status != 0:
+            self.refused += 1
+            return None if "SCFI: " in first_error(assembled) else f"refused without its directives: {first_error(assembled)}"
+        code = code_of("written.o", folder)
+        if code != code_of("worked.o", folder):
+            return "has other code without its directives"
+        places = [int(place, 16) for place in INSTRUCTION.findall(code.decode())]
+        written, worked = frames_of("written.o", folder), frames_of("worked.o", folder)
+        return next(filter(None, (self.rows_fault(key, rows, worked.get(key), places) for key, rows in written.items())), None)
+
+    def rows_fault(self, key: tuple[str, str, int], written: list[tuple[str, ...]], worked: list[tuple[str, ...]] | None, places: list[int]) -> str | None:
+        """What is wrong with the rows of a procedure, at its instructions."""
+        if worked is None:
+            return f"has no entry {key[0]}..{key[1]} without its directives"
+        for place in places:
+            if not int(key[0], 16) <= place < int(key[1], 16):
+                continue
+            # readelf shows no row where an entry has none but that of the common entry.
+            one, other = (next((row for row in reversed(rows) if int(row[0], 16) <= place), COMMON) for rows in (written, worked))
+            self.instructions += 1
+            if one[1].partition("+")[0] != other[1].partition("+")[0]:
+                self.others += 1
+            elif one[1] != other[1]:
+                return f"the procedure {key[0]}..{key[1]} has the frame address {other[1]} at {place:x}, and by its directives {one[1]}"
+            slots, theirs = (dict(rule.split("=") for rule in row[2:]) for row in (other, one))
+            wrong = [name for name in slots if slots[name] != theirs.get(name, slots[name])]
+            if wrong:
+                return f"the procedure {key[0]}..{key[1]} has {wrong[0]} at {slots[wrong[0]]} at {place:x}, and by its directives at {theirs[wrong[0]]}"
+        return None
+
+
 def main() -> int:
     parser = argparse.ArgumentParser(description="Compares frame tables of C programs with those of GNU as.")
     parser.add_argument("--ours", type=program, required=True, help="our program, as build/as")
@@ -120,30 +173,36 @@ def main() -> int:
         return 0
     kept = options.keep
     entries = failed = passed_over = 0
-    for number in range(options.seed - 1, options.seed + options.count):
-        for way in WAYS:
-            with tempfile.TemporaryDirectory() as name:
-                folder = pathlib.Path(name)
-                if number < options.seed:
-                    found = backtrace_fault(options.ours, options.gnu, way, folder)
+    worked = Worked()
+    ways = [(number, way) for number in range(options.seed - 1, options.seed + options.count) for way in WAYS]
+    ways += [(number, way) for number in range(options.seed, options.seed + options.count) for way in PLAIN_WAYS]
+    for number, way in ways:
+        with tempfile.TemporaryDirectory() as name:
+            folder = pathlib.Path(name)
+            if number < options.seed:
+                found = backtrace_fault(options.ours, options.gnu, way, folder)
+            else:
+                (folder / "x.c").write_text(c_program(number), encoding="ascii")
+                must([*COMPILE, *way, "-o", "x.s", "x.c"], folder)
+                text = (folder / "x.s").read_text(encoding="ascii")
+                if "-masm=intel" in way and re.search(r"\bds:", text):
+                    passed_over += 1
+                    continue
+                if way in PLAIN_WAYS:
+                    found = worked.fault(options.ours, folder)
                 else:
-                    (folder / "x.c").write_text(c_program(number), encoding="ascii")
-                    must([*COMPILE, *way, "-o", "x.s", "x.c"], folder)
-                    text = (folder / "x.s").read_text(encoding="ascii")
-                    if "-masm=intel" in way and re.search(r"\bds:", text):
-                        passed_over += 1
-                        continue
                     entries += text.count(".cfi_startproc")
                     found = fault(options.ours, options.gnu, folder)
-                if found == PASSED_OVER:
-                    passed_over += 1
-                elif found:
-                    failed += 1
-                    kept = kept or pathlib.Path(tempfile.mkdtemp(prefix="frames-"))
-                    place = kept / f"{number}{''.join(way)}"
-                    shutil.copytree(folder, place, dirs_exist_ok=True)
-                    print(f"{place}: {found}", flush=True)
+            if found == PASSED_OVER:
+                passed_over += 1
+            elif found:
+                failed += 1
+                kept = kept or pathlib.Path(tempfile.mkdtemp(prefix="frames-"))
+                place = kept / f"{number}{''.join(way)}"
+                shutil.copytree(folder, place, dirs_exist_ok=True)
+                print(f"{place}: {found}", flush=True)
     print(f"{options.count} programs and a backtrace, in {len(WAYS)} ways: {entries} procedures, {passed_over} sources passed over, {failed} faults")
+    print(f"{worked.sources} sources without directives: {worked.instructions} instructions, {worked.others} of them with the frame address by another register, {worked.refused} refused")
     return 1 if failed else 0
 
 
