@@ -164,7 +164,7 @@ impl<P: Phase> Section<P> {
     }
 }
 
-/// Puts bytes behind these. Most are few: one, two and four need no copy of a slice where there is room.
+/// Puts bytes behind these. Most are few: one to four need no copy of a slice where there is room.
 #[inline(always)]
 fn append(bytes: &mut Vec<u8>, more: &[u8]) -> Result<(), AllocError>
     ensures ok { OnOk result (bytes.new.items ≡ bytes.old.items ++ more.now) }
@@ -178,6 +178,12 @@ fn append(bytes: &mut Vec<u8>, more: &[u8]) -> Result<(), AllocError>
         [a, b] if bytes.capacity() - bytes.len() >= 2 => {
             bytes.push_reserved(*a);
             bytes.push_reserved(*b);
+            Ok(())
+        }
+        [a, b, c] if bytes.capacity() - bytes.len() >= 3 => {
+            bytes.push_reserved(*a);
+            bytes.push_reserved(*b);
+            bytes.push_reserved(*c);
             Ok(())
         }
         [a, b, c, d] if bytes.capacity() - bytes.len() >= 4 => {

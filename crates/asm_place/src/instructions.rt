@@ -235,7 +235,7 @@ fn place_alone(
 }
 
 /// A statement that is an instruction, in the syntax that is in force. In Intel syntax all are read.
-#[inline(never)]
+#[inline(always)]
 #[tactic(auto, unfolding(crate::specs::Coding::place_instruction), using(crate::proofs::EffectLemmas::none_asked))]
 pub(crate) fn place_instruction(
     assembler: &mut Assembler,

@@ -276,6 +276,7 @@ fn directive_row(name: &[u8]) -> Option<&'static DirectiveRow>
 }
 
 /// The directive of the name.
+#[inline(always)]
 #[tactic(auto, unfolding(crate::specs::Directives::directive_of))]
 pub fn directive_of(name: &[u8]) -> Option<Directive>
     ensures { result ≡ spec.directive_of name.now }

@@ -12,6 +12,7 @@ use crate::names::{att_names, att_slots, mixed, name_at, slot_at};
 
 impl Code {
     /// The bytes.
+    #[inline(always)]
     fn bytes(&self) -> &[u8]
         ensures { result.now ≡ code_bytes self.now }
     {
@@ -41,6 +42,7 @@ fn att_codes() -> &'static [u8]
 }
 
 /// The bytes of the code of this number.
+#[inline(always)]
 fn code_of_number(number: u8) -> Option<&'static [u8]>
     ensures { option_map (λ bytes. bytes.now) result ≡ code_of_number number }
 {
@@ -51,6 +53,7 @@ fn code_of_number(number: u8) -> Option<&'static [u8]>
 }
 
 /// The bytes of the mnemonic at the index, if it has the text.
+#[inline(always)]
 fn code_at(text: &[u8], index: u16) -> Option<&'static [u8]>
     ensures { let due = code_at text.now (Some index) in
         option_map (λ bytes. bytes.now) result ≡ due }
@@ -66,6 +69,7 @@ fn code_at(text: &[u8], index: u16) -> Option<&'static [u8]>
 
 /// The bytes of the instruction without operands whose mnemonic of AT&T syntax has this text, in either
 /// case, if there is one.
+#[inline(always)]
 pub fn bare_code(text: &[u8]) -> Option<&'static [u8]>
     ensures { option_map (λ bytes. bytes.now) result ≡ bare_code text.now }
 {
