@@ -28,8 +28,9 @@ use Rattle.att_operands.specs.Values.{GivesSo, IsFitting, IsAmountOf}
 use Rattle.att_insns.specs.InsnTexts.{InsnText, IsInsnOf}
 use Rattle.asm_words.specs.declared.directives.Syntax.{Syntax}
 use Rattle.asm_words.specs.declared.directives.Syntax.TheVariants.{Att, Intel}
-use Rattle.asm_place.specs.Coding.{shape_in, shape_of, forms_of, in_text_order, put_named, insn_of_trees, place_insn, place_text, place_read}
-use Rattle.asm_place.specs.Amounts.{trees_of, place_amounts, AmountFits, InsnFits, FitsThere}
+use Rattle.amount_forms.specs.Amounts.{in_text_order, trees_of, AmountFits, InsnFits}
+use Rattle.asm_place.specs.Coding.{shape_in, shape_of, forms_of, put_named, insn_of_trees, place_insn, place_text, place_read}
+use Rattle.asm_place.specs.Amounts.{place_amounts, FitsThere}
 
 -- each of these names has a symbol, from left to right
 abbrev with_each : Pos → List Written → Table → Table

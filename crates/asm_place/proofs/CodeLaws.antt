@@ -28,7 +28,8 @@ use Rattle.x86_encode.specs.FieldPlaces.{EncodingsApart}
 use Rattle.x86_encode.specs.Filling.{Coding}
 use Rattle.asm_place.specs.declared.codes.InsnForms.{InsnForms}
 use Rattle.asm_place.specs.declared.codes.CodeField.{CodeField}
-use Rattle.asm_place.specs.Coding.{InsnShape, shape_in, forms_of, in_text_order, values_in, of_code, fields_of, put_code, keeps_place, put_by_jump, put_coded, put_insn, place_insn, place_text, place_read, lone_code, insn_by, place_coded, place_instruction}
+use Rattle.amount_forms.specs.Amounts.{in_text_order}
+use Rattle.asm_place.specs.Coding.{InsnShape, shape_in, forms_of, values_in, of_code, fields_of, put_code, keeps_place, put_by_jump, put_coded, put_insn, place_insn, place_text, place_read, lone_code, insn_by, place_coded, place_instruction}
 use Rattle.asm_place.specs.Placing.{place_body, place_label, place_unlabelled, place_labelled, has_wide_label, place_tokens}
 use Rattle.asm_place.specs.Sources.{pos_at, place, place_all}
 use Rattle.asm_place.specs.Bodies.{AreLabels}

@@ -14,8 +14,9 @@ use Rattle.att_operands.specs.declared.faults.OperandCause.{OperandCause}
 use Rattle.att_operands.specs.Values.{GivesSo}
 use Rattle.att_insns.specs.InsnTexts.{InsnText, IsInsnOf}
 use Rattle.insn_effects.specs.declared.effects.Effect.{Effect}
+use Rattle.amount_forms.specs.Amounts.{trees_of, InsnFits}
 use Rattle.asm_place.specs.Coding.{shape_in, shape_of, forms_of, lone_code, lone_asked}
-use Rattle.asm_place.specs.Amounts.{trees_of, InsnFits, FitsThere}
+use Rattle.asm_place.specs.Amounts.{FitsThere}
 use Rattle.asm_place.specs.Effects.{no_values, view_formed, view_amounts, view_read, view_lone, ShowsInsn, ShowsAsked}
 use Rattle.asm_place.proofs.AmountTrees.{same_shape, same_forms, same_tables}
 

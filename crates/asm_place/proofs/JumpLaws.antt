@@ -34,7 +34,8 @@ use Rattle.x86_insn.specs.declared.insns.Prefix.TheVariants as prefix
 use Rattle.x86_table.specs.declared.mnemonics.integers.TheConstants.{JMP, JO, JG}
 use Rattle.x86_table.specs.Reads.{Reads}
 use Rattle.asm_place.specs.declared.codes.InsnForms.{InsnForms}
-use Rattle.asm_place.specs.Coding.{shape_in, forms_of, in_text_order, keeps_place, put_by_jump, put_insn, is_target, is_absent, is_bare, jump_named, place_insn, place_text}
+use Rattle.amount_forms.specs.Amounts.{in_text_order}
+use Rattle.asm_place.specs.Coding.{shape_in, forms_of, keeps_place, put_by_jump, put_insn, is_target, is_absent, is_bare, jump_named, place_insn, place_text}
 use Rattle.asm_place.specs.Placing.{has_wide_label, place_labelled, place_tokens}
 use Rattle.asm_place.specs.Sources.{pos_at, place, place_all}
 use Rattle.asm_place.specs.Instructions.{behind_labels, with_more, IsContinued, Grows, IsWithin, AreWithin}

@@ -12,7 +12,8 @@ use Rattle.asm_uses.specs.Tables.{naming_of}
 use Rattle.asm_values.specs.State.{Placed, with_names, here, known_here}
 use Rattle.att_insns.specs.InsnTexts.{InsnText}
 use Rattle.asm_place.specs.declared.codes.InsnForms.{InsnForms}
-use Rattle.asm_place.specs.Coding.{shape_in, forms_of, in_text_order, place_insn, place_text}
+use Rattle.amount_forms.specs.Amounts.{in_text_order}
+use Rattle.asm_place.specs.Coding.{shape_in, forms_of, place_insn, place_text}
 use Rattle.asm_place.specs.Placing.{has_wide_label, place_unlabelled, place_labelled, place_tokens}
 use Rattle.asm_place.specs.Sources.{pos_at, place, place_all}
 use Rattle.asm_place.specs.Instructions.{behind_labels}

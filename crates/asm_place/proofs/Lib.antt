@@ -1,7 +1,6 @@
 -- The proofs of this crate.
 mod RemarkLemmas
 mod TokenLists
-mod NamedForms
 mod AmountTrees
 mod EffectLemmas
 mod FieldOrder

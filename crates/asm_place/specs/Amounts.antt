@@ -1,60 +1,21 @@
--- The amounts of an instruction's values, and the trees that they stand for.
-use Rattle.std.specs.Prelude.{◌≡◌, ℕ, List, Option, None, Some, Result, Ok, Err}
+-- Instructions by the trees of their amounts, and whether these fit where their names have symbols.
+use Rattle.std.specs.Prelude.{Result, Ok, Err}
 use Rattle.asm_base.specs.declared.refusals.Refusal.{Refusal}
 use Rattle.asm_base.specs.declared.refusals.Refusal.TheVariants.{Fault, NoMemory}
 use Rattle.asm_base.specs.declared.positions.Pos.{Pos}
-use Rattle.asm_expr.specs.declared.naming.Name.TheVariants as naming
-use Rattle.asm_expr.specs.declared.trees.Written.{Written}
-use Rattle.asm_expr.specs.declared.trees.Written.TheVariants.{Plain}
-use Rattle.asm_expr.specs.Knowledge.{Knowledge}
-use Rattle.asm_expr.specs.Trees.{Tree, tree_of}
 use Rattle.asm_operands.specs.declared.place_faults.PlaceCause.{PlaceCause}
-use Rattle.asm_symbols.specs.SymbolMap.{SymbolMap, names, index_of}
 use Rattle.asm_values.specs.State.{Placed, with_names, known_here}
-use Rattle.x86_insn.specs.declared.amounts.Amount.{Amount}
-use Rattle.x86_insn.specs.declared.amounts.Amount.TheVariants as amount
 use Rattle.x86_insn.specs.declared.insns.Insn.{Insn}
 use Rattle.x86_insn.specs.Amounts.{amount_tree}
-use Rattle.att_operands.specs.Values.{IsFitting, KnowsFitting}
-use Rattle.asm_words.specs.declared.directives.Syntax.{Syntax}
-use Rattle.asm_place.specs.Coding.{shape_of, in_text_order, place_insn}
-
--- the trees of the amounts of an instruction's values, in the order of its text
-abbrev pub trees_of : Syntax → Insn → List Tree
-trees_of syntax insn = in_text_order syntax (amount_tree insn.immediate.amount) (amount_tree insn.displacement.amount)
+use Rattle.amount_forms.specs.Amounts.{trees_of, InsnFits}
+use Rattle.asm_place.specs.Coding.{shape_of, place_insn}
 
 -- the instruction by the trees of its amounts
 abbrev pub place_amounts : Pos → Insn → Placed → Result Placed PlaceCause
 place_amounts pos insn placed = place_insn pos (shape_of insn) (amount_tree insn.immediate.amount) (amount_tree insn.displacement.amount) placed
 
--- what is known of this name, as it is written, is below 2^64
-abbrev pub WrittenFits : Knowledge → Written → Type 0
-WrittenFits known written = IsFitting (known.told (known.meant written))
-
--- the same of a name of these bytes
-abbrev pub NameFits : Knowledge → List ℕ → Type 0
-NameFits known bytes = WrittenFits known (Plain bytes)
-
--- what is known of the names of an amount is below 2^64
-abbrev pub AmountFits : Knowledge → Amount → Type 0
-AmountFits known (amount.Number value) = Unit {0}
-AmountFits known (amount.Name bytes more) = NameFits known bytes.now
-AmountFits known (amount.Tree boxed) = KnowsFitting known (tree_of boxed.value)
-
--- so is what is known of the names of both amounts
-pub record InsnFits (known : Knowledge) (insn : Insn) : Type 0 where
-  pub immediate : AmountFits known insn.immediate.amount
-  pub displacement : AmountFits known insn.displacement.amount
-
--- so it is where the names of the instruction have symbols, unless the call wanted memory
+-- what is known of its names is below 2^64 where they have symbols, unless the call wanted memory
 abbrev pub FitsThere : {T : Type 0} → Result T (Refusal PlaceCause) → Pos → Insn → Placed → Type 0
 FitsThere (Ok done) pos insn placed = InsnFits (known_here (with_names pos (trees_of placed.syntax insn) placed)) insn
 FitsThere (Err (Fault cause)) pos insn placed = InsnFits (known_here (with_names pos (trees_of placed.syntax insn) placed)) insn
 FitsThere (Err NoMemory) pos insn placed = Unit {0}
-
--- the symbol, where one is told, is that of the name of the amount
-abbrev pub IsSymbolOf : SymbolMap → Amount → Option ℕ → Type 0
-IsSymbolOf map held None = Unit {0}
-IsSymbolOf map (amount.Number value) (Some symbol) = ⊥
-IsSymbolOf map (amount.Name bytes more) (Some symbol) = index_of (naming.Plain bytes.now) (names map.symbols) ≡ Some symbol
-IsSymbolOf map (amount.Tree boxed) (Some symbol) = ⊥

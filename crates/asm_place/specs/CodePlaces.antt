@@ -20,7 +20,8 @@ use Rattle.x86_encode.specs.Encoding.{encoding_of}
 use Rattle.x86_encode.specs.Filling.{Coding}
 use Rattle.asm_place.specs.declared.codes.InsnForms.{InsnForms}
 use Rattle.asm_place.specs.declared.codes.CodeField.{CodeField}
-use Rattle.asm_place.specs.Coding.{view_in, shape_in, forms_of, in_text_order, values_in, fields_of, lone_code, insn_by, jump_by}
+use Rattle.amount_forms.specs.Amounts.{in_text_order}
+use Rattle.asm_place.specs.Coding.{view_in, shape_in, forms_of, values_in, fields_of, lone_code, insn_by, jump_by}
 use Rattle.asm_place.specs.Placing.{place_label}
 use Rattle.asm_place.specs.Instructions.{behind_labels, instruction_written, next_item, next_offset}
 

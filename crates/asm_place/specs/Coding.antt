@@ -42,6 +42,7 @@ use Rattle.x86_encode.specs.Filling.{Coding}
 use Rattle.att_operands.specs.declared.faults.OperandCause.{OperandCause}
 use Rattle.att_operands.specs.declared.faults.OperandCause.TheVariants as operand
 use Rattle.att_insns.specs.InsnTexts.{InsnText}
+use Rattle.amount_forms.specs.Amounts.{in_text_order}
 use Rattle.asm_place.specs.declared.codes.InsnForms.{InsnForms}
 use Rattle.asm_place.specs.declared.codes.CodeField.{CodeField}
 use Rattle.att_insns.specs.Reading as att
@@ -255,12 +256,6 @@ put_named pos shape naming forms named =
 -- an instruction of these trees whose names have symbols
 abbrev pub insn_of_trees : Pos → InsnShape → Naming → Tree → Tree → Placed → Result Placed PlaceCause
 insn_of_trees pos shape naming own moved named = forms_of (known_here named) own moved >>= λ forms. put_named pos shape naming forms named
-
--- the trees of an immediate and of a displacement in the order of the text: an immediate stands before memory in AT&T syntax, and behind it in Intel
--- syntax
-abbrev pub in_text_order : Syntax → Tree → Tree → List Tree
-in_text_order Att own moved = own ∷ moved ∷ []
-in_text_order Intel own moved = moved ∷ own ∷ []
 
 -- the names of these trees become symbols, and then the same
 unfoldable pub place_insn : Pos → InsnShape → Tree → Tree → Placed → Result Placed PlaceCause

@@ -20,7 +20,8 @@ use Rattle.insn_effects.specs.Effects.{effect_of}
 use Rattle.insn_effects.specs.Flows.{flow_of, is_unsupported}
 use Rattle.insn_effects.specs.Followed.{Shows, writing}
 use Rattle.asm_place.specs.declared.codes.InsnForms.{InsnForms}
-use Rattle.asm_place.specs.Coding.{InsnShape, shape_in, shape_of, forms_of, in_text_order, view_in, lone_code, insn_by, values_in}
+use Rattle.amount_forms.specs.Amounts.{in_text_order}
+use Rattle.asm_place.specs.Coding.{InsnShape, shape_in, shape_of, forms_of, view_in, lone_code, insn_by, values_in}
 
 -- WHAT IS SEEN OF AN INSTRUCTION
 

@@ -12,14 +12,15 @@ ghost use Rattle.asm_values.specs.PlacedBy.{placed_by, PlacesBy};
 ghost use Rattle.asm_uses.specs.Tables.{naming_of};
 ghost use Rattle.x86_insn.specs.Amounts.{amount_tree};
 ghost use Rattle.asm_expr.specs.Trees.{number};
+ghost use Rattle.amount_forms.specs.Amounts.{trees_of, IsSymbolOf};
 ghost use Rattle.asm_place.specs.Coding.{shape_of, insn_of_trees, place_insn, place_text, place_read, lone_code, lone_asked, place_either, place_instruction};
 ghost use Rattle.asm_place.specs.Effects.{ShowsAsked, view_here, view_named, view_amounts, view_read, view_lone, view_coded, insn_view};
-ghost use Rattle.asm_place.specs.Amounts.{trees_of, place_amounts, FitsThere, IsSymbolOf};
+ghost use Rattle.asm_place.specs.Amounts.{place_amounts, FitsThere};
 
-use crate::amount_forms::{InsnNames, PlacedForm, amount_form, amounts_fit, intern_amounts};
 use crate::code_putting::put_insn;
 use crate::codes::{InsnForms, operand_fault};
 use crate::watches::Watch;
+use amount_forms::{InsnNames, PlacedForm, amount_form, amounts_fit, intern_amounts};
 use asm_base::{Pos, Token};
 use asm_expr::constant_form;
 use asm_operands::PlaceFault;

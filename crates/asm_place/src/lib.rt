@@ -1,7 +1,6 @@
 //! Placing statements: what each adds to the sections, the symbols and the notes of a source.
 #![tactic(auto)]
 
-mod amount_forms;
 mod bodies;
 mod code_putting;
 mod codes;

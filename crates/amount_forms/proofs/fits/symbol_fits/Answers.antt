@@ -4,8 +4,8 @@ use Rattle.asm_symbols.specs.Looking.{told}
 use Rattle.asm_symbols.specs.SymbolMap.{SymbolMap}
 use Rattle.asm_values.specs.PlacedBy.{placed_by}
 use Rattle.att_operands.specs.Values.{IsFitting}
-use Rattle.asm_place.proofs.NamedForms.{fits_found}
-use Rattle.asm_place.proofs.amount_forms.symbol_fits.Goals as goal
+use Rattle.amount_forms.proofs.NamedForms.{fits_found}
+use Rattle.amount_forms.proofs.fits.symbol_fits.Goals as goal
 
 pub returns : goal.returns
 returns c =

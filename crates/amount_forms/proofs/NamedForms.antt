@@ -22,7 +22,7 @@ use Rattle.asm_uses.specs.SumForms.{sum_form}
 use Rattle.asm_values.specs.State.{Placed, here, known_here}
 use Rattle.att_operands.specs.Values.{IsFitting}
 use Rattle.x86_insn.specs.Amounts.{named_tree}
-use Rattle.asm_place.specs.Amounts.{NameFits}
+use Rattle.amount_forms.specs.Amounts.{NameFits}
 
 -- a symbol, and a number more
 abbrev pub moved : ℕ → ℕ → SymbolSum
