@@ -14,7 +14,7 @@ use Rattle.asm_macro.specs.declared.faults.ExpandFault.TheVariants as expand
 use Rattle.asm_place.specs.Faults.{is_too_large, is_file_too_large}
 use Rattle.asm_place.specs.Sources.{fault_at}
 use Rattle.asm_place.specs.declared.place_faults.FaultAt.{FaultAt}
-use Rattle.asm_functions.specs.Followed.{Followed}
+use Rattle.asm_functions.specs.FollowedSource.{FollowedSource}
 use Rattle.asm_front.specs.Ending.{Flags, followed_end}
 use Rattle.asm_front.specs.declared.ending.NotedObject.{NotedObject}
 use Rattle.asm_front.specs.Assembly.{assembled, faulty, macro_fault, shown_files, ended_by}
@@ -27,7 +27,7 @@ use Rattle.asm_front.specs.declared.answers.AsmFault.{AsmFault}
 use Rattle.asm_front.specs.declared.answers.AsmFault.TheVariants.{Source, Read, NoMemory}
 use Rattle.asm_front.proofs.FaultLaws.{end_is_no_reading}
 
-module _ (flags : Flags) (name : List ℕ) (files : List (List ℕ)) (placed : Followed) where
+module _ (flags : Flags) (name : List ℕ) (files : List (List ℕ)) (placed : FollowedSource) where
   -- an object comes only where expansion came to its end
   object_by : (answer : Result NotedObject FaultAt) (noted : NotedObject) (shown : List (List ℕ)) → ended_by (shown_files name files) answer ≡ assembled noted shown → shown ≡ shown_files name files
   object_by (Ok made) noted shown is = cc
@@ -124,7 +124,7 @@ ended_fault shown (Err at) fault files is = cc
 same_fault : (at other : FaultAt) (shown files : List (List ℕ)) → faulty at shown ≡ faulty other files → other.fault ≡ at.fault
 same_fault at other shown files is = cc
 
-module _ (flags : Flags) (name : List ℕ) (files : List (List ℕ)) (placed : Followed) where
+module _ (flags : Flags) (name : List ℕ) (files : List (List ℕ)) (placed : FollowedSource) where
   pub text_large : (expanded : Result (Unit {0}) (ExpandFault FaultAt)) (result : Result Assembled AsmFault) (before now : ℕ) → IsAnswer flags name files placed expanded result
       → AnswersSmall expanded result → TakesTooLarge expanded before now → TakesSource result before now
   text_large expanded (Ok made) before now so small takes = tt
@@ -146,7 +146,7 @@ module _ (flags : Flags) (name : List ℕ) (files : List (List ℕ)) (placed : F
 -- THE SAME WITH WHAT SYNTHESIS COMES TO
 
 -- with one outcome of synthesis at least it is the answer
-some_answer : (options : Options) (files : List (List ℕ)) (f : Followed) (expanded : Result (Unit {0}) (ExpandFault FaultAt)) (result : Result Assembled AsmFault)
+some_answer : (options : Options) (files : List (List ℕ)) (f : FollowedSource) (expanded : Result (Unit {0}) (ExpandFault FaultAt)) (result : Result Assembled AsmFault)
     → AnswersSource options files f expanded result → (made : Synthesis) × IsAnswer (flags_of options made) (string_bytes options.file) files f expanded result
 some_answer options files f expanded (Ok answer) is = (is.0, is.2.answer)
 some_answer options files f expanded (Err (Source fault pos notes names)) is = (is.0, is.2.answer)
@@ -154,20 +154,20 @@ some_answer options files f expanded (Err Read) is = (Ok [], (is (Ok [])).answer
 some_answer options files f expanded (Err NoMemory) is = (Ok [], (is (Ok [])).answer)
 
 -- so many bytes were read
-pub source_taken : (options : Options) (files : List (List ℕ)) (f : Followed) (expanded : Result (Unit {0}) (ExpandFault FaultAt)) (result : Result Assembled AsmFault) (before now : ℕ)
+pub source_taken : (options : Options) (files : List (List ℕ)) (f : FollowedSource) (expanded : Result (Unit {0}) (ExpandFault FaultAt)) (result : Result Assembled AsmFault) (before now : ℕ)
     → AnswersSource options files f expanded result → TakesIncludes expanded files before now → 0 < length files → TakesText result before now
 source_taken options files f expanded result before now is takes some =
     let one = some_answer options files f expanded result is in
     text_taken (flags_of options one.0) (string_bytes options.file) files f expanded result before now one.1 takes some
 
 -- and a file is called too large where more than the most was
-pub source_large : (options : Options) (files : List (List ℕ)) (f : Followed) (expanded : Result (Unit {0}) (ExpandFault FaultAt)) (result : Result Assembled AsmFault) (before now : ℕ)
+pub source_large : (options : Options) (files : List (List ℕ)) (f : FollowedSource) (expanded : Result (Unit {0}) (ExpandFault FaultAt)) (result : Result Assembled AsmFault) (before now : ℕ)
     → AnswersSource options files f expanded result → AnswersSmall expanded result → TakesTooLarge expanded before now → TakesSource result before now
 source_large options files f expanded result before now is small takes =
     let one = some_answer options files f expanded result is in
     text_large (flags_of options one.0) (string_bytes options.file) files f expanded result before now one.1 small takes
 
-cause_by : (flags : Flags) (name : List ℕ) (files : List (List ℕ)) (f : Followed) (expanded : Result (Unit {0}) (ExpandFault FaultAt)) (result : Result Assembled AsmFault) (before now : ℕ)
+cause_by : (flags : Flags) (name : List ℕ) (files : List (List ℕ)) (f : FollowedSource) (expanded : Result (Unit {0}) (ExpandFault FaultAt)) (result : Result Assembled AsmFault) (before now : ℕ)
     → IsAnswer flags name files f expanded result → HasExpansionCause expanded before now → HasAssemblyCause result before now
 cause_by flags name files f (Err expand.Read) result before now so cause = subst (λ r. HasAssemblyCause r before now) (sym so) cause
 cause_by flags name files f (Ok u) (Ok made) before now so cause = cause
@@ -192,13 +192,13 @@ cause_by flags name files f (Err expand.NoMemory) (Err Read) before now so cause
 cause_by flags name files f (Err expand.NoMemory) (Err NoMemory) before now so cause = cause
 
 -- the input failed where expansion found it so
-pub source_cause : (options : Options) (files : List (List ℕ)) (f : Followed) (expanded : Result (Unit {0}) (ExpandFault FaultAt)) (result : Result Assembled AsmFault) (before now : ℕ)
+pub source_cause : (options : Options) (files : List (List ℕ)) (f : FollowedSource) (expanded : Result (Unit {0}) (ExpandFault FaultAt)) (result : Result Assembled AsmFault) (before now : ℕ)
     → AnswersSource options files f expanded result → HasExpansionCause expanded before now → HasAssemblyCause result before now
 source_cause options files f expanded result before now is cause =
     let one = some_answer options files f expanded result is in
     cause_by (flags_of options one.0) (string_bytes options.file) files f expanded result before now one.1 cause
 
-found_by : (flags : Flags) (name : List ℕ) (files : List (List ℕ)) (f : Followed) (expanded : Result (Unit {0}) (ExpandFault FaultAt)) (result : Result Assembled AsmFault) (before now : ℕ)
+found_by : (flags : Flags) (name : List ℕ) (files : List (List ℕ)) (f : FollowedSource) (expanded : Result (Unit {0}) (ExpandFault FaultAt)) (result : Result Assembled AsmFault) (before now : ℕ)
     → IsAnswer flags name files f expanded result → KeepsMissing expanded before now → KeepsCount result before now
 found_by flags name files f (Err expand.Read) result before now so keeps = subst (λ r. KeepsCount r before now) (sym so) keeps
 found_by flags name files f (Ok u) (Ok made) before now so keeps = keeps
@@ -223,7 +223,7 @@ found_by flags name files f (Err expand.NoMemory) (Err Read) before now so keeps
 found_by flags name files f (Err expand.NoMemory) (Err NoMemory) before now so keeps = keeps
 
 -- and the count of starts of what has no contents stays where expansion kept it
-pub source_found : (options : Options) (files : List (List ℕ)) (f : Followed) (expanded : Result (Unit {0}) (ExpandFault FaultAt)) (result : Result Assembled AsmFault) (before now : ℕ)
+pub source_found : (options : Options) (files : List (List ℕ)) (f : FollowedSource) (expanded : Result (Unit {0}) (ExpandFault FaultAt)) (result : Result Assembled AsmFault) (before now : ℕ)
     → AnswersSource options files f expanded result → KeepsMissing expanded before now → KeepsCount result before now
 source_found options files f expanded result before now is keeps =
     let one = some_answer options files f expanded result is in
@@ -232,7 +232,7 @@ source_found options files f expanded result before now is keeps =
 -- ANSWERS OF FAULTS
 
 -- a fault of the lines of the source
-pub lines_answered : (flags : Flags) (name shown : List ℕ) (files begun : List (List ℕ)) (placed : Followed) (expanded : Result (Unit {0}) (ExpandFault FaultAt)) (cause : LineCause) (at : FaultAt)
+pub lines_answered : (flags : Flags) (name shown : List ℕ) (files begun : List (List ℕ)) (placed : FollowedSource) (expanded : Result (Unit {0}) (ExpandFault FaultAt)) (cause : LineCause) (at : FaultAt)
     (result : Result Assembled AsmFault) → expanded ≡ Err (expand.Lines cause) → at ≡ line_answer cause → shown ≡ name → begun ≡ []
     → IsAnswered (faulty at (shown_files shown begun)) result → IsAnswer flags name files placed expanded result
 lines_answered flags name shown files begun placed expanded cause at result is same named none so =

@@ -15,7 +15,7 @@ use Rattle.asm_macro.specs.declared.faults.ExpandFault.{ExpandFault}
 use Rattle.asm_macro.specs.declared.faults.ExpandFault.TheVariants as expand
 use Rattle.asm_place.specs.Sources.{pos_at, fault_at}
 use Rattle.asm_place.specs.declared.place_faults.FaultAt.{FaultAt}
-use Rattle.asm_functions.specs.Followed.{Followed}
+use Rattle.asm_functions.specs.FollowedSource.{FollowedSource}
 use Rattle.asm_front.specs.Ending.{Flags}
 use Rattle.asm_front.specs.declared.ending.NotedObject.{NotedObject}
 use Rattle.asm_front.specs.Assembly.{Assembly, assembled, faulty, missing, shown_files, main_file, too_large, placed_after, told_of, nothing_yet, ended_by, assembly_by, expansion_of, assembly_of}
@@ -34,12 +34,12 @@ answered assembly (Err Read) so = tt
 answered assembly (Err NoMemory) so = tt
 
 -- what came is what was wanted, where that is told
-told : (wanted got : Step Followed FaultAt) → (wanted ≡ untold → ⊥) → Comes wanted got → wanted ≡ got
+told : (wanted got : Step FollowedSource FaultAt) → (wanted ≡ untold → ⊥) → Comes wanted got → wanted ≡ got
 told wanted got never (inl is) = is
 told wanted got never (inr is) = absurd (never is)
 
 -- an answer for what came is one for what was wanted
-for_wanted : (flags : Flags) (name : List ℕ) (wanted got : Step Followed FaultAt) (result : Result Assembled AsmFault) → wanted ≡ got → IsAnswered (assembly_by flags name got) result
+for_wanted : (flags : Flags) (name : List ℕ) (wanted got : Step FollowedSource FaultAt) (result : Result Assembled AsmFault) → wanted ≡ got → IsAnswered (assembly_by flags name got) result
     → AssemblesAs (assembly_by flags name wanted) result
 for_wanted flags name wanted got result is so = answered (assembly_by flags name wanted) result (subst (λ step. IsAnswered (assembly_by flags name step) result) (sym is) so)
 
@@ -52,7 +52,7 @@ for_none assembly (Err NoMemory) so = tt
 
 module _ (flags : Flags) (name : List ℕ) where
   -- what comes of these lines
-  abbrev of_lines : Contents → Result (List StatementAt) LineCause → Step Followed FaultAt
+  abbrev of_lines : Contents → Result (List StatementAt) LineCause → Step FollowedSource FaultAt
   of_lines contents lines = expansion placed_after told_of (Some contents) (name ∷ []) (nothing_yet flags) lines
 
   -- the fault of the lines comes before all statements
@@ -63,7 +63,7 @@ module _ (flags : Flags) (name : List ℕ) where
   lines_fault contents (Err other) cause is = ap (λ c. fails (name ∷ []) (line_cause c) (pos_at main_file (line_of_cause c)) (nothing_yet flags)) cc
 
   -- the answer for what expansion answered is that for the text
-  by_expanded : (contents : Contents) (lines : Result (List StatementAt) LineCause) (files : List (List ℕ)) (placed : Followed) (expanded : Result (Unit {0}) (ExpandFault FaultAt))
+  by_expanded : (contents : Contents) (lines : Result (List StatementAt) LineCause) (files : List (List ℕ)) (placed : FollowedSource) (expanded : Result (Unit {0}) (ExpandFault FaultAt))
       (result : Result Assembled AsmFault) → (of_lines contents lines ≡ untold → ⊥) → IsExpansion (of_lines contents lines) lines expanded files placed
       → IsAnswer flags name files placed expanded result → AssemblesAs (assembly_by flags name (of_lines contents lines)) result
   by_expanded contents lines files placed (Ok u) result never came so =
@@ -81,14 +81,14 @@ module _ (flags : Flags) (name : List ℕ) where
 
   -- the same, told or not, of a call that began with nothing placed and the source alone
   pub text_answered : ((flags : Flags) (contents : Contents) (name source : List ℕ) → expansion_of flags (Some contents) name source ≡ untold → ⊥)
-      → (contents : Option Contents) (text : List ℕ) (begun files : List (List ℕ)) (start placed : Followed) (expanded : Result (Unit {0}) (ExpandFault FaultAt)) (result : Result Assembled AsmFault)
+      → (contents : Option Contents) (text : List ℕ) (begun files : List (List ℕ)) (start placed : FollowedSource) (expanded : Result (Unit {0}) (ExpandFault FaultAt)) (result : Result Assembled AsmFault)
       → begun ≡ name ∷ [] → start ≡ nothing_yet flags → IsExpansion (expansion placed_after told_of contents begun start (statements_of main_file text)) (statements_of main_file text) expanded files placed
       → IsAnswer flags name files placed expanded result → AssemblesText flags contents name text result
   unfolding expansion_of
   text_answered never None text begun files start placed expanded result named empty came so = tt
   text_answered never (Some contents) text begun files start placed expanded result named empty came so =
       by_expanded contents (statements_of main_file text) files placed expanded result (never flags contents name text)
-      (subst (λ (first : Followed). IsExpansion (expansion placed_after told_of (Some contents) (name ∷ []) first (statements_of main_file text)) (statements_of main_file text) expanded files placed) empty
+      (subst (λ (first : FollowedSource). IsExpansion (expansion placed_after told_of (Some contents) (name ∷ []) first (statements_of main_file text)) (statements_of main_file text) expanded files placed) empty
       (subst (λ (names : List (List ℕ)). IsExpansion (expansion placed_after told_of (Some contents) names start (statements_of main_file text)) (statements_of main_file text) expanded files placed) named came)) so
 
   missed : (contents : Contents) (lines : Result (List StatementAt) LineCause) (before now : ℕ) → (of_lines contents lines ≡ untold → ⊥) → CountsMisses (of_lines contents lines) before now
@@ -97,18 +97,18 @@ module _ (flags : Flags) (name : List ℕ) where
   missed contents lines before now never (inr (inl risen)) = inr ((_, ap (assembly_by flags name) risen.0.1), risen.1, risen.2)
   missed contents lines before now never (inr (inr none)) = absurd (never none.0)
 
-  never_falls : (wanted : Step Followed FaultAt) (before now : ℕ) → CountsMisses wanted before now → before ≤ now
+  never_falls : (wanted : Step FollowedSource FaultAt) (before now : ℕ) → CountsMisses wanted before now → before ≤ now
   never_falls wanted before now (inl same) = omega arith
   never_falls wanted before now (inr (inl risen)) = risen.1
   never_falls wanted before now (inr (inr none)) = none.1
 
   -- the count of starts of what has no contents
   pub text_missed : ((flags : Flags) (contents : Contents) (name source : List ℕ) → expansion_of flags (Some contents) name source ≡ untold → ⊥)
-      → (contents : Option Contents) (text : List ℕ) (begun : List (List ℕ)) (start : Followed) (before now : ℕ) → begun ≡ name ∷ [] → start ≡ nothing_yet flags
+      → (contents : Option Contents) (text : List ℕ) (begun : List (List ℕ)) (start : FollowedSource) (before now : ℕ) → begun ≡ name ∷ [] → start ≡ nothing_yet flags
       → CountsMisses (expansion placed_after told_of contents begun start (statements_of main_file text)) before now → CountsText flags contents name text before now
   unfolding expansion_of
   text_missed never None text begun start before now named empty counts = never_falls _ before now counts
   text_missed never (Some contents) text begun start before now named empty counts =
       missed contents (statements_of main_file text) before now (never flags contents name text)
-      (subst (λ (first : Followed). CountsMisses (expansion placed_after told_of (Some contents) (name ∷ []) first (statements_of main_file text)) before now) empty
+      (subst (λ (first : FollowedSource). CountsMisses (expansion placed_after told_of (Some contents) (name ∷ []) first (statements_of main_file text)) before now) empty
       (subst (λ (names : List (List ℕ)). CountsMisses (expansion placed_after told_of (Some contents) names start (statements_of main_file text)) before now) named counts))

@@ -10,7 +10,7 @@ use Rattle.asm_macro.specs.Expanding.{Comes, IsExpansion}
 use Rattle.asm_macro.specs.declared.faults.ExpandFault.{ExpandFault}
 use Rattle.asm_macro.specs.declared.faults.ExpandFault.TheVariants as expand
 use Rattle.asm_place.specs.declared.place_faults.FaultAt.{FaultAt}
-use Rattle.asm_functions.specs.Followed.{Followed}
+use Rattle.asm_functions.specs.FollowedSource.{FollowedSource}
 use Rattle.asm_front.specs.Ending.{Flags, framed, with_made}
 use Rattle.asm_front.specs.Assembly.{assembled, faulty, assembly_of, expansion_of, handed_of, main_file, placed_after, told_of, nothing_yet, SourceIsMade, FileIsMade, IsMade}
 use Rattle.asm_front.specs.Answering.{IsAnswer, IsAnswered}
@@ -21,13 +21,13 @@ use Rattle.asm_front.specs.declared.answers.AsmFault.{AsmFault}
 use Rattle.asm_front.specs.declared.ending.NotedObject.{NotedObject}
 
 -- where the end came, what it placed fits
-at_end : (flags : Flags) (wanted : Step Followed FaultAt) (files : List (List ℕ)) (placed : Followed) → (wanted ≡ untold → ⊥) → Comes wanted (ended files placed)
+at_end : (flags : Flags) (wanted : Step FollowedSource FaultAt) (files : List (List ℕ)) (placed : FollowedSource) → (wanted ≡ untold → ⊥) → Comes wanted (ended files placed)
     → TablesFit (framed (with_made flags.scfi placed.placed)) → StepFits flags wanted
 at_end flags wanted files placed never (inl is) fit = subst (StepFits flags) (sym is) fit
 at_end flags wanted files placed never (inr is) fit = absurd (never is)
 
 -- what a refused list comes to has no object
-of_answer : (flags : Flags) (name : List ℕ) (wanted : Step Followed FaultAt) (lines : Result (List StatementAt) LineCause) (files : List (List ℕ)) (placed : Followed)
+of_answer : (flags : Flags) (name : List ℕ) (wanted : Step FollowedSource FaultAt) (lines : Result (List StatementAt) LineCause) (files : List (List ℕ)) (placed : FollowedSource)
     (expanded : Result (Unit {0}) (ExpandFault FaultAt)) (made : Assembled) → (wanted ≡ untold → ⊥) → IsExpansion wanted lines expanded files placed
     → IsAnswer flags name files placed expanded (Ok made) → AnswerFits flags expanded placed (Ok made) → StepFits flags wanted
 of_answer flags name wanted lines files placed (Ok u) made never came so fit = at_end flags wanted files placed never came fit
@@ -39,7 +39,7 @@ of_answer flags name wanted lines files placed (Err expand.NoMemory) made never 
 
 -- the numbers of a text whose list was placed from nothing on
 pub text_fits : ((flags : Flags) (contents : Contents) (name source : List ℕ) → expansion_of flags (Some contents) name source ≡ untold → ⊥)
-    → (flags : Flags) (contents : Option Contents) (name text : List ℕ) (begun files : List (List ℕ)) (start placed : Followed) (expanded : Result (Unit {0}) (ExpandFault FaultAt))
+    → (flags : Flags) (contents : Option Contents) (name text : List ℕ) (begun files : List (List ℕ)) (start placed : FollowedSource) (expanded : Result (Unit {0}) (ExpandFault FaultAt))
     (result : Result Assembled AsmFault) → begun ≡ name ∷ [] → start ≡ nothing_yet flags
     → IsExpansion (expansion placed_after told_of contents begun start (statements_of main_file text)) (statements_of main_file text) expanded files placed
     → IsAnswer flags name files placed expanded result → AnswerFits flags expanded placed result → TextFits flags contents name text result
@@ -49,7 +49,7 @@ text_fits never flags (Some contents) name text begun files start placed expande
 text_fits never flags (Some contents) name text begun files start placed expanded (Ok made) named empty came so fit =
     let wanted = expansion placed_after told_of (Some contents) (name ∷ []) (nothing_yet flags) (statements_of main_file text) in
     of_answer flags name wanted (statements_of main_file text) files placed expanded made (never flags contents name text)
-    (subst (λ (first : Followed). IsExpansion (expansion placed_after told_of (Some contents) (name ∷ []) first (statements_of main_file text)) (statements_of main_file text) expanded files placed) empty
+    (subst (λ (first : FollowedSource). IsExpansion (expansion placed_after told_of (Some contents) (name ∷ []) first (statements_of main_file text)) (statements_of main_file text) expanded files placed) empty
     (subst (λ (names : List (List ℕ)). IsExpansion (expansion placed_after told_of (Some contents) names start (statements_of main_file text)) (statements_of main_file text) expanded files placed) named came))
     so fit
 

@@ -11,7 +11,7 @@ use Rattle.asm_macro.specs.Expanding.{Comes, IsExpansion, CountsMisses}
 use Rattle.asm_macro.specs.declared.faults.ExpandFault.{ExpandFault}
 use Rattle.asm_macro.specs.declared.faults.ExpandFault.TheVariants as expand
 use Rattle.asm_place.specs.declared.place_faults.FaultAt.{FaultAt}
-use Rattle.asm_functions.specs.Followed.{Followed, nothing_followed}
+use Rattle.asm_functions.specs.FollowedSource.{FollowedSource, nothing_followed}
 use Rattle.asm_front.specs.Synthesis.{Synthesis}
 use Rattle.asm_front.specs.Ending.{Flags}
 use Rattle.asm_front.specs.Assembly.{faulty, shown_files, main_file, too_large, nothing_yet, placed_after, told_of, expansion_of, StepIsMade, FileIsMade, IsMade}
@@ -61,11 +61,11 @@ empty_is options made = ap (nothing_followed options.no_warn) (sym (asked_is opt
 
 module _ (flags : Flags) (name : List ℕ) where
   -- what came is what was wanted, where that is told
-  made_by : (wanted got : Step Followed FaultAt) → (wanted ≡ untold → ⊥) → Comes wanted got → StepIsMade flags.scfi got → StepIsMade flags.scfi wanted
+  made_by : (wanted got : Step FollowedSource FaultAt) → (wanted ≡ untold → ⊥) → Comes wanted got → StepIsMade flags.scfi got → StepIsMade flags.scfi wanted
   made_by wanted got never (inl is) made = subst (StepIsMade flags.scfi) (sym is) made
   made_by wanted got never (inr is) made = absurd (never is)
 
-  step_made : (contents : Contents) (lines : Result (List StatementAt) LineCause) (files : List (List ℕ)) (f : Followed) (expanded : Result (Unit {0}) (ExpandFault FaultAt))
+  step_made : (contents : Contents) (lines : Result (List StatementAt) LineCause) (files : List (List ℕ)) (f : FollowedSource) (expanded : Result (Unit {0}) (ExpandFault FaultAt))
       (result : Result Assembled AsmFault) → IsFound result
       → (expansion placed_after told_of (Some contents) (name ∷ []) (nothing_yet flags) lines ≡ untold → ⊥)
       → IsExpansion (expansion placed_after told_of (Some contents) (name ∷ []) (nothing_yet flags) lines) lines expanded files f
@@ -83,7 +83,7 @@ module _ (flags : Flags) (name : List ℕ) where
   step_made contents lines files f (Err expand.NoMemory) (Err NoMemory) found never came made so = absurd found
 
   text_made : ((flags : Flags) (contents : Contents) (name source : List ℕ) → expansion_of flags (Some contents) name source ≡ untold → ⊥)
-      → (contents : Option Contents) (text : List ℕ) (begun files : List (List ℕ)) (start f : Followed) (expanded : Result (Unit {0}) (ExpandFault FaultAt)) (result : Result Assembled AsmFault)
+      → (contents : Option Contents) (text : List ℕ) (begun files : List (List ℕ)) (start f : FollowedSource) (expanded : Result (Unit {0}) (ExpandFault FaultAt)) (result : Result Assembled AsmFault)
       → begun ≡ name ∷ [] → start ≡ nothing_yet flags → IsFound result
       → IsExpansion (expansion placed_after told_of contents begun start (statements_of main_file text)) (statements_of main_file text) expanded files f
       → StepIsMade flags.scfi (came_of flags name files f expanded) → IsAnswer flags name files f expanded result → TextIsMade flags contents name text
@@ -91,13 +91,13 @@ module _ (flags : Flags) (name : List ℕ) where
   text_made never None text begun files start f expanded result named empty found came made so = tt
   text_made never (Some contents) text begun files start f expanded result named empty found came made so =
       step_made contents (statements_of main_file text) files f expanded result found (never flags contents name text)
-      (subst (λ (first : Followed). IsExpansion (expansion placed_after told_of (Some contents) (name ∷ []) first (statements_of main_file text)) (statements_of main_file text) expanded files f) empty
+      (subst (λ (first : FollowedSource). IsExpansion (expansion placed_after told_of (Some contents) (name ∷ []) first (statements_of main_file text)) (statements_of main_file text) expanded files f) empty
       (subst (λ (names : List (List ℕ)). IsExpansion (expansion placed_after told_of (Some contents) names start (statements_of main_file text)) (statements_of main_file text) expanded files f) named came))
       made so
 
 -- the answer for a text whose list was placed from nothing on
 pub text_answers : ((flags : Flags) (contents : Contents) (name source : List ℕ) → expansion_of flags (Some contents) name source ≡ untold → ⊥)
-    → (options : Options) (contents : Option Contents) (text : List ℕ) (begun files : List (List ℕ)) (start f : Followed) (expanded : Result (Unit {0}) (ExpandFault FaultAt))
+    → (options : Options) (contents : Option Contents) (text : List ℕ) (begun files : List (List ℕ)) (start f : FollowedSource) (expanded : Result (Unit {0}) (ExpandFault FaultAt))
     (result : Result Assembled AsmFault) → begun ≡ string_bytes options.file ∷ [] → start ≡ nothing_followed options.no_warn options.scfi
     → IsExpansion (expansion placed_after told_of contents begun start (statements_of main_file text)) (statements_of main_file text) expanded files f
     → AnswersSource options files f expanded result → AnswersText options contents text result

@@ -14,7 +14,7 @@ use Rattle.asm_uses.specs.Tables.{Table, with_map}
 use Rattle.asm_frags.specs.Writing.{LooseSection}
 use Rattle.asm_base.specs.Refusals.{◌>>=◌}
 use Rattle.asm_lines.specs.NextStatements.{TokenStatement}
-use Rattle.asm_functions.specs.Followed.{Followed, place_followed, follow_all, notes_of}
+use Rattle.asm_functions.specs.FollowedSource.{FollowedSource, place_followed, follow_all, notes_of}
 use Rattle.asm_place.specs.declared.place_faults.FaultAt.{FaultAt}
 use Rattle.asm_front.specs.Synthesis.{Synthesis}
 use Rattle.asm_front.specs.Ending.{Flags, noted, laid_end, unclosed, first_line, with_frames, framed_end, unless_open, finished, procedures_by, unless_fault, followed_end}
@@ -62,7 +62,7 @@ made_fine (Some (Ok frames)) notes answer fine = fine
 made_fine (Some (Err at)) notes answer fine = a_fault _ refl
 
 -- the end of a source is no reading of a file
-pub end_is_no_reading : (flags : Flags) (f : Followed) (fault : FaultAt) → followed_end flags f ≡ Err fault → is_file_too_large fault.fault ≡ false
+pub end_is_no_reading : (flags : Flags) (f : FollowedSource) (fault : FaultAt) → followed_end flags f ≡ Err fault → is_file_too_large fault.fault ≡ false
 end_is_no_reading flags f fault is =
     IfErr-at_err (λ at. is_file_too_large at.fault ≡ false) is
     (made_fine flags.scfi (notes_of f) _

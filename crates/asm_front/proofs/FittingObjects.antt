@@ -32,7 +32,7 @@ use Rattle.asm_place.specs.declared.place_faults.FaultAt.{FaultAt}
 use Rattle.asm_values.specs.State.{Placed, nothing_placed}
 use Rattle.asm_macro.specs.Placing.{Step, ended}
 use Rattle.asm_front.specs.Assembly.{assembled, assembly_of, expansion_of, handed_of}
-use Rattle.asm_functions.specs.Followed.{Followed}
+use Rattle.asm_functions.specs.FollowedSource.{FollowedSource}
 use Rattle.asm_front.specs.Ending.{Flags, framed, with_made}
 use Rattle.asm_front.specs.Fitting.{LayoutFits, TablesFit, StepFits, IsReadable, ObjectIsReadable}
 use Rattle.asm_front.specs.ReadsBack.{FramesReadBack, Origin, ReadsBack}
@@ -138,7 +138,7 @@ readable facts object whole tables laid small frames settles read fit =
     record { fits = all.0; few = all.1; sections = facts.found tables.symbols laid all.0 }
 
 -- what is said of the object of one layout is said of the one that it is made of
-pub object_is_readable : SmallFacts → (flags : Flags) (handed : List TokenStatement) (object : List ℕ) (names : List (List ℕ)) (came : Step Followed FaultAt) (f : Followed)
+pub object_is_readable : SmallFacts → (flags : Flags) (handed : List TokenStatement) (object : List ℕ) (names : List (List ℕ)) (came : Step FollowedSource FaultAt) (f : FollowedSource)
     → ReadsBack flags handed object → came ≡ ended names f → place_all handed (nothing_placed flags.no_warn) ≡ Ok f.placed → StepFits flags came → ObjectIsReadable flags handed object
 object_is_readable facts flags handed object names came f read is places fit made =
     let whole = f.placed in

@@ -29,7 +29,7 @@ use Rattle.eh_frame.specs.Placing.{placed}
 use Rattle.frame_laws.specs.PlacedTables.{IsCovered, SymbolHolds, AreReady}
 use Rattle.frame_laws.specs.TableReads.{TableReads, FrameTablesRead}
 use Rattle.asm_front.proofs.SettledObjects.{AreSettled}
-use Rattle.asm_functions.specs.Followed.{Followed, notes_of}
+use Rattle.asm_functions.specs.FollowedSource.{FollowedSource, notes_of}
 use Rattle.asm_functions.specs.Standing.{StandsInOrder}
 use Rattle.synthesis_laws.specs.WrittenTables.{TablesCanBeWritten}
 use Rattle.asm_front.specs.Synthesis.{Synthesis, IsMadeAt}
@@ -82,7 +82,7 @@ frames_covered whole stands ordered closed = λ k default within. (
     })
 
 -- so do the procedures of an object, or the functions in place of them
-pub are_covered : JumpFacts → FrameFacts → TablesCanBeWritten → (flags : Flags) (handed : List TokenStatement) (f : Followed) (made : NotedObject)
+pub are_covered : JumpFacts → FrameFacts → TablesCanBeWritten → (flags : Flags) (handed : List TokenStatement) (f : FollowedSource) (made : NotedObject)
     → place_all handed (nothing_placed flags.no_warn) ≡ Ok f.placed → All (StandsInOrder f.placed.sections) f.functions → IsMadeAt flags.scfi f
     → followed_end flags f ≡ Ok made → AreCovered flags.scfi f.placed
 are_covered facts frames_facts written flags handed f made all ordered = by_synthesis flags.scfi

@@ -12,7 +12,7 @@ use Rattle.asm_macro.specs.Expansion.{started}
 use Rattle.asm_macro.specs.Laws.{PlacesHanded}
 use Rattle.asm_macro.specs.Placing.{Step, goes, ended, fails, refused, misses, untold, expansion, handed, most_turns, steps}
 use Rattle.asm_base.specs.Refusals.{◌>>=◌}
-use Rattle.asm_functions.specs.Followed.{Followed, nothing_followed, place_followed, follow_all, placed_part, notes_of}
+use Rattle.asm_functions.specs.FollowedSource.{FollowedSource, nothing_followed, place_followed, follow_all, placed_part, notes_of}
 use Rattle.asm_place.specs.Sources.{place_all}
 use Rattle.asm_place.specs.declared.place_faults.FaultAt.{FaultAt}
 use Rattle.asm_values.specs.State.{Placed, nothing_placed}
@@ -29,19 +29,19 @@ fault_stays : (statements : List TokenStatement) (fault : FaultAt) → fold (pla
 fault_stays [] fault = refl
 fault_stays (s ∷ later) fault = fault_stays later fault
 
-in_order_step : (answer : Result Followed FaultAt) (later : List TokenStatement)
-    → ((f : Followed) → fold (placed_next placed_after) (Ok f) later ≡ follow_all later f)
+in_order_step : (answer : Result FollowedSource FaultAt) (later : List TokenStatement)
+    → ((f : FollowedSource) → fold (placed_next placed_after) (Ok f) later ≡ follow_all later f)
     → fold (placed_next placed_after) answer later ≡ (answer >>= follow_all later)
 in_order_step (Ok f) later all = all f
 in_order_step (Err fault) later all = fault_stays later fault
 
-folded : (statements : List TokenStatement) (before : Followed) → fold (placed_next placed_after) (Ok before) statements ≡ follow_all statements before
+folded : (statements : List TokenStatement) (before : FollowedSource) → fold (placed_next placed_after) (Ok before) statements ≡ follow_all statements before
 unfolding follow_all
 folded [] before = refl
 folded (s ∷ later) before = in_order_step (place_followed s before) later (folded later)
 
 -- statements that are placed as they are handed out are placed in order
-in_order : (statements : List TokenStatement) (before : Followed) → placed_in_order placed_after before statements ≡ follow_all statements before
+in_order : (statements : List TokenStatement) (before : FollowedSource) → placed_in_order placed_after before statements ≡ follow_all statements before
 unfolding placed_in_order
 in_order statements before = folded statements before
 
@@ -49,17 +49,17 @@ in_order statements before = folded statements before
 
 -- where a list comes to its end, its statements make what was made
 abbrev pub Places : Type 0
-Places = (known : Followed → Knowledge) (files : List (List ℕ)) (statements : List TokenStatement) (contents : Option Contents) (placer : Followed)
+Places = (known : FollowedSource → Knowledge) (files : List (List ℕ)) (statements : List TokenStatement) (contents : Option Contents) (placer : FollowedSource)
     → PlacesHanded placed_after known files statements contents placer
 
 -- what is placed and followed is placed, without the directives that are ignored
 abbrev pub Follows : Type 0
-Follows = (statements : List TokenStatement) (before f : Followed) → follow_all statements before ≡ Ok f
+Follows = (statements : List TokenStatement) (before f : FollowedSource) → follow_all statements before ≡ Ok f
     → place_all (map (placed_part before.asked) statements) before.placed ≡ Ok f.placed
 
 -- a list that has an object came to its end
-ended_is : (flags : Flags) (name : List ℕ) (came : Step Followed FaultAt) (made : NotedObject) (files : List (List ℕ)) → assembly_by flags name came ≡ assembled made files
-    → (names : List (List ℕ)) × (f : Followed) × (came ≡ ended names f) × (followed_end flags f ≡ Ok made)
+ended_is : (flags : Flags) (name : List ℕ) (came : Step FollowedSource FaultAt) (made : NotedObject) (files : List (List ℕ)) → assembly_by flags name came ≡ assembled made files
+    → (names : List (List ℕ)) × (f : FollowedSource) × (came ≡ ended names f) × (followed_end flags f ≡ Ok made)
 ended_is flags name (ended names f) made files is = (names, f, refl, object_is (followed_end flags f) is)
   where
     object_is : (answer : Result NotedObject FaultAt) → ended_by (shown_files name names) answer ≡ assembled made files → answer ≡ Ok made
@@ -78,8 +78,8 @@ not_large true fault came made files never is = absurd (never made files is)
 not_large false fault came made files never is = (is, refl)
 
 -- the list that was handed out came to its end with what the statements place and what they do to functions, and that has this object
-pub record MakesAtEnd (flags : Flags) (came : Step Followed FaultAt) (statements : List TokenStatement) (made : NotedObject) : Type 0 where
-  pub f : Followed
+pub record MakesAtEnd (flags : Flags) (came : Step FollowedSource FaultAt) (statements : List TokenStatement) (made : NotedObject) : Type 0 where
+  pub f : FollowedSource
   pub names : List (List ℕ)
   pub comes : came ≡ ended names f
   pub follows : follow_all statements (nothing_yet flags) ≡ Ok f
@@ -123,7 +123,7 @@ source_fits flags contents name source made files is =
     grind (arith, nat_tests)
 
 -- what synthesis comes to there
-pub made_at_end : (flags : Flags) (contents : Contents) (name source : List ℕ) (made : NotedObject) (files : List (List ℕ)) (names : List (List ℕ)) (f : Followed)
+pub made_at_end : (flags : Flags) (contents : Contents) (name source : List ℕ) (made : NotedObject) (files : List (List ℕ)) (names : List (List ℕ)) (f : FollowedSource)
     → assembly_of flags contents name source ≡ assembled made files → SourceIsMade flags contents name source
     → expansion_of flags (Some contents) name source ≡ ended names f → IsMadeAt flags.scfi f
 made_at_end flags contents name source made files names f is so comes =
@@ -136,13 +136,13 @@ unless_fault_is (Some (Ok frames)) notes answer made is = is
 unless_fault_is (Some (Err at)) notes answer made is = absurd cc
 
 -- what the statements place that are handed out makes the object
-pub handed_placed : Follows → (flags : Flags) (contents : Contents) (name source : List ℕ) (f : Followed)
+pub handed_placed : Follows → (flags : Flags) (contents : Contents) (name source : List ℕ) (f : FollowedSource)
     → follow_all (handed_by flags contents name (statements_of main_file source)) (nothing_yet flags) ≡ Ok f
     → place_all (handed_of flags contents name source) (nothing_placed flags.no_warn) ≡ Ok f.placed
 unfolding handed_of
 handed_placed follows flags contents name source f is = follows (handed_by flags contents name (statements_of main_file source)) (nothing_yet flags) f is
 
-abbrev pub made_of : (flags : Flags) (handed : List TokenStatement) (f : Followed) (made : NotedObject) → place_all handed (nothing_placed flags.no_warn) ≡ Ok f.placed
+abbrev pub made_of : (flags : Flags) (handed : List TokenStatement) (f : FollowedSource) (made : NotedObject) → place_all handed (nothing_placed flags.no_warn) ≡ Ok f.placed
     → followed_end flags f ≡ Ok made → Makes flags handed made
 made_of flags handed f made places ends = record {
   whole = f.placed;

@@ -19,7 +19,7 @@ use Rattle.scfi_pass.specs.declared.walked.ItemFault.{ItemFault}
 use Rattle.scfi_pass.specs.Synthesis.{IsTableOf}
 use Rattle.synthesis_laws.specs.OneAnswer.{IsFaultHere, TablesAreOne, FaultsAreOne, TablesHaveNoFault}
 use Rattle.synthesis_laws.specs.Sights.{Sight, sight_of, LookAlike, TablesAreSeen, FaultsAreSeen, NodesAreSeen}
-use Rattle.asm_functions.specs.Followed.{Followed}
+use Rattle.asm_functions.specs.FollowedSource.{FollowedSource}
 use Rattle.asm_functions.specs.Following.{end_of}
 use Rattle.asm_front.specs.Synthesis.{Synthesis, IsTable, IsRefused, IsFrameOf, AreFrames, IsFirstRefused, ComeTo, IsSynthesis, place_of, placed_op, placed_ops, frame_with, fields_of, nodes_in}
 use Rattle.asm_front.specs.declared.synthesizing.ItemFaultAt.{ItemFaultAt}
@@ -237,7 +237,7 @@ all_alike ends (f ∷ one) (g ∷ other) same =
     (closed_alike ends f g (seen_alike f g first), all_alike ends one other rest)
 
 -- what functions come to is one thing
-pub one_synthesis : SynthesisFacts → (f : Followed) (made again : Synthesis) → IsSynthesis f made → IsSynthesis f again → made ≡ again
+pub one_synthesis : SynthesisFacts → (f : FollowedSource) (made again : Synthesis) → IsSynthesis f made → IsSynthesis f again → made ≡ again
 one_synthesis facts f made again is also =
     let ends = end_of f.placed.sections in
     let same = is.seen ∙ sym also.seen in

@@ -10,7 +10,7 @@ use Rattle.asm_macro.specs.Expanding.{StartsIncludes}
 use Rattle.asm_macro.specs.Placing.{Step, goes, ended, fails, refused, misses, untold, expansion}
 use Rattle.asm_macro.specs.Starts.{AreFirst, IsFront, ReadsFront, files_of}
 use Rattle.asm_place.specs.declared.place_faults.FaultAt.{FaultAt}
-use Rattle.asm_functions.specs.Followed.{Followed}
+use Rattle.asm_functions.specs.FollowedSource.{FollowedSource}
 use Rattle.asm_front.specs.Answering.{StartsIncluded, StartsTexts}
 use Rattle.asm_front.specs.Assembly.{Assembly, included_by, shown_files, main_file, placed_after, told_of, nothing_yet, ended_by, assembly_by, expansion_of, assembly_of}
 use Rattle.asm_front.specs.Ending.{Flags, followed_end}
@@ -57,7 +57,7 @@ by_end name front files (Ok made) is = front_dropped front files is
 by_end name front files (Err fault) is = front_dropped front files is
 
 -- the first of the files that a list starts are those of its assembly
-first_included : (flags : Flags) (name : List ℕ) (front : List (List ℕ)) (wanted : Step Followed FaultAt) → (wanted ≡ untold → ⊥) → AreFirst front (files_of wanted)
+first_included : (flags : Flags) (name : List ℕ) (front : List (List ℕ)) (wanted : Step FollowedSource FaultAt) → (wanted ≡ untold → ⊥) → AreFirst front (files_of wanted)
     → IsFront (drop 1 front) (included_by (assembly_by flags name wanted))
 first_included flags name front (ended files f) never is = by_end name front files (followed_end flags f) is
 first_included flags name front (fails files cause pos placed) never is = front_dropped front files is
@@ -69,12 +69,12 @@ first_included flags name front untold never is = absurd (never refl)
 module _ (flags : Flags) (name : List ℕ) (text : List ℕ) where
   -- the files that expansion started
   pub text_starts : ((flags : Flags) (contents : Contents) (name source : List ℕ) → expansion_of flags (Some contents) name source ≡ untold → ⊥)
-      → (contents : Option Contents) (begun files : List (List ℕ)) (start : Followed) (before now : Option (List FileEvent)) (taken after : ℕ) → begun ≡ name ∷ [] → start ≡ nothing_yet flags
+      → (contents : Option Contents) (begun files : List (List ℕ)) (start : FollowedSource) (before now : Option (List FileEvent)) (taken after : ℕ) → begun ≡ name ∷ [] → start ≡ nothing_yet flags
       → StartsIncludes (expansion placed_after told_of contents begun start (statements_of main_file text)) 1 files before now taken after → StartsIncluded flags contents name text before now taken after
   unfolding expansion_of
   text_starts never None begun files start before now taken after named empty is = record { included = drop 1 is.begun; these = tt; reads = is.reads }
   text_starts never (Some contents) begun files start before now taken after named empty is =
-      let First : List (List ℕ) → Followed → Type 0 = λ names placed. AreFirst is.begun (files_of (expansion placed_after told_of (Some contents) names placed (statements_of main_file text))) in
+      let First : List (List ℕ) → FollowedSource → Type 0 = λ names placed. AreFirst is.begun (files_of (expansion placed_after told_of (Some contents) names placed (statements_of main_file text))) in
       let first = subst (λ placed. First (name ∷ []) placed) empty (subst (λ names. First names start) named is.first) in
       record {
         included = drop 1 is.begun;

@@ -24,7 +24,7 @@ use Rattle.code_functions.specs.Recorded.{Recorded, all_closed}
 use Rattle.code_functions.specs.Seen.{all_seen}
 use Rattle.eh_frame.specs.Pieces.{tables_of}
 use Rattle.eh_frame.specs.Placing.{placed}
-use Rattle.asm_functions.specs.Followed.{Followed, notes_of}
+use Rattle.asm_functions.specs.FollowedSource.{FollowedSource, notes_of}
 use Rattle.asm_functions.specs.Following.{end_of}
 use Rattle.asm_front.specs.Synthesis.{Synthesis, AreFrames, IsFirstRefused, ComeTo, IsSynthesis, IsMadeAt}
 use Rattle.asm_front.specs.declared.synthesizing.ItemFaultAt.{ItemFaultAt}
@@ -82,7 +82,7 @@ fault_made fatal sections table functions notes at is = record { made = Err at; 
 -- THE END OF ALL THAT WAS PLACED
 
 -- the end by what synthesis comes to
-abbrev end_by : Option Synthesis → Bool → Followed → Result NotedObject FaultAt
+abbrev end_by : Option Synthesis → Bool → FollowedSource → Result NotedObject FaultAt
 end_by made fatal f = unless_fault made (notes_of f) (finished fatal f.placed.sections f.placed.table (procedures_by made f.placed.procedures) (notes_of f))
 
 -- the end by these parts
@@ -90,21 +90,21 @@ abbrev end_of_parts : Option Synthesis → Bool → List LooseSection → Table 
 end_of_parts made fatal sections table procedures notes = unless_fault made notes (finished fatal sections table (procedures_by made procedures) notes)
 
 -- an answer for the end where it is not asked for synthesis, and where it is
-abbrev EndsAs : Bool → Bool → Followed → Result NotedObject FaultAt → Type 0
+abbrev EndsAs : Bool → Bool → FollowedSource → Result NotedObject FaultAt → Type 0
 EndsAs asked fatal f answer = (made : Synthesis) × IsMadeAt (cond asked (Some made) None) f × (end_by (cond asked (Some made) None) fatal f ≡ answer)
     × OnOk answer (TablesFit (framed (with_made (cond asked (Some made) None) f.placed)))
 
-followed_as : (options : Options) (f : Followed) (answer : Result NotedObject FaultAt) → EndsAs options.scfi options.fatal_warnings f answer → EndsFollowed options f answer
+followed_as : (options : Options) (f : FollowedSource) (answer : Result NotedObject FaultAt) → EndsAs options.scfi options.fatal_warnings f answer → EndsFollowed options f answer
 followed_as options f answer is = record { made = is.0; comes = is.1; answers = is.2; fits = is.3 }
 
 -- the parts of what was placed and followed
-pub record ArePartsOf (f : Followed) (sections : List LooseSection) (table : Table) (procedures : Procedures) (notes : List Noted) : Type 0 where
+pub record ArePartsOf (f : FollowedSource) (sections : List LooseSection) (table : Table) (procedures : Procedures) (notes : List Noted) : Type 0 where
   pub sections_are : sections ≡ f.placed.sections
   pub table_is : table ≡ f.placed.table
   pub procedures_are : procedures ≡ f.placed.procedures
   pub notes_are : notes ≡ notes_of f
 
-module _ (f : Followed) (sections : List LooseSection) (table : Table) (procedures : Procedures) (notes : List Noted) (parts : ArePartsOf f sections table procedures notes) where
+module _ (f : FollowedSource) (sections : List LooseSection) (table : Table) (procedures : Procedures) (notes : List Noted) (parts : ArePartsOf f sections table procedures notes) where
   end_is : (made : Option Synthesis) (fatal : Bool) → end_by made fatal f ≡ end_of_parts made fatal sections table procedures notes
   end_is made fatal =
       sym (ap (λ x. end_of_parts made fatal x table procedures notes) parts.sections_are
@@ -175,7 +175,7 @@ module _ (f : Followed) (sections : List LooseSection) (table : Table) (procedur
 
 -- ANSWERS FOR A SOURCE
 
-module _ (options : Options) (files : List (List ℕ)) (f : Followed) where
+module _ (options : Options) (files : List (List ℕ)) (f : FollowedSource) where
   -- where the answer hangs on no synthesis
   anyhow : (expanded : Result (Unit {0}) (ExpandFault FaultAt)) (result : Result Assembled AsmFault)
       → ((made : Synthesis) → StepIsMade (flags_of options made).scfi (came_of (flags_of options made) (string_bytes options.file) files f expanded))

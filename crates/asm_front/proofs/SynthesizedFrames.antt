@@ -27,7 +27,7 @@ use Rattle.scfi_pass.specs.Changing.{told}
 use Rattle.scfi_pass.specs.Rows.{whole_row}
 use Rattle.scfi_pass.specs.Tables.{Analyzed, AreRowsFrom, ops_from, entry_row}
 use Rattle.synthesis_laws.specs.WrittenTables.{TablesCanBeWritten}
-use Rattle.asm_functions.specs.Followed.{Followed}
+use Rattle.asm_functions.specs.FollowedSource.{FollowedSource}
 use Rattle.asm_functions.specs.Following.{end_of}
 use Rattle.asm_functions.specs.Standing.{EndsBehind, StandsInOrder, item_places}
 use Rattle.asm_front.specs.Synthesis.{IsFrameOf, IsTable, IsSynthesis, frame_with, place_of, placed_ops, nodes_in}
@@ -236,7 +236,7 @@ module _ (written : TablesCanBeWritten) (symbols : SymbolMap) (sections : List L
       (all_cover functions frames (All-tail (StandsInOrder sections) (mapped seen g) (all_seen functions) stand) are.1)
 
 -- the frames of all functions of a source do
-pub functions_covered : TablesCanBeWritten → (f : Followed) (frames : List Frame) → IsSynthesis f (Ok frames) → All (StandsInOrder f.placed.sections) f.functions
+pub functions_covered : TablesCanBeWritten → (f : FollowedSource) (frames : List Frame) → IsSynthesis f (Ok frames) → All (StandsInOrder f.placed.sections) f.functions
     → All (IsCovered f.placed.sections) frames
 functions_covered written f frames is stand =
     all_cover written f.placed.table.symbols f.placed.sections is.functions frames (subst (All (StandsInOrder f.placed.sections)) (sym is.seen) stand) is.comes

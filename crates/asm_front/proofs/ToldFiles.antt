@@ -31,7 +31,7 @@ use Rattle.asm_macro.specs.Expansion as list
 use Rattle.asm_macro.specs.Expansion.{MacroAs, State, Turn, with_made, with_read, with_body, enter, go_on, search_branch, conditional_by, conditional, passed_over, branch_end_by, branch_end, conditional_end_by, conditional_end, repeat_copies, repeat, each_copies, each, is_called, without, add_macro, define, call, forget, purge, after_call, exit_by, exit, is_inner_part, is_file_part, start_file, include_file, include, rewritten, macro_named, behind_own_labels, head_by, head, close_by, turn_level, turn_levels, turn, under, started, most_given}
 use Rattle.asm_macro.specs.Placing.{Step, goes, ended, fails, refused, misses, untold, with_placed, placed_by_turn, and_then, step, steps, expansion, most_turns}
 use Rattle.asm_place.specs.declared.place_faults.FaultAt.{FaultAt}
-use Rattle.asm_functions.specs.Followed.{Followed}
+use Rattle.asm_functions.specs.FollowedSource.{FollowedSource}
 use Rattle.asm_front.specs.Assembly.{placed_after, told_of, nothing_yet, expansion_of, main_file}
 use Rattle.asm_front.specs.Ending.{Flags}
 
@@ -217,15 +217,15 @@ module _ (contents : Contents) where
   of_turn known state = of_levels known state.levels state
 
   -- the same of what comes of a list
-  abbrev is_told_step : Step Followed FaultAt → Bool
+  abbrev is_told_step : Step FollowedSource FaultAt → Bool
   is_told_step untold = false
   is_told_step _ = true
 
-  of_placed : (state : State) (result : Result Followed FaultAt) → is_told_step (with_placed state result) ≡ true
+  of_placed : (state : State) (result : Result FollowedSource FaultAt) → is_told_step (with_placed state result) ≡ true
   of_placed state (Ok placer) = refl
   of_placed state (Err fault) = refl
 
-  of_step : (files : List (List ℕ)) (placer : Followed) (turn : Turn) → Told turn → is_told_step (placed_by_turn placed_after files placer turn) ≡ true
+  of_step : (files : List (List ℕ)) (placer : FollowedSource) (turn : Turn) → Told turn → is_told_step (placed_by_turn placed_after files placer turn) ≡ true
   of_step files placer (list.hands statement state) p = of_placed state (placed_after placer statement)
   of_step files placer (list.goes state) p = refl
   of_step files placer list.ended p = refl
@@ -234,8 +234,8 @@ module _ (contents : Contents) where
   of_step files placer (list.misses name) p = refl
   of_step files placer list.untold p = absurd (false≢true p.is)
 
-  behind : (more : State → Followed → Step Followed FaultAt) → ((state : State) (placer : Followed) → is_told_step (more state placer) ≡ true)
-      → (now : Step Followed FaultAt) → is_told_step now ≡ true → is_told_step (and_then more now) ≡ true
+  behind : (more : State → FollowedSource → Step FollowedSource FaultAt) → ((state : State) (placer : FollowedSource) → is_told_step (more state placer) ≡ true)
+      → (now : Step FollowedSource FaultAt) → is_told_step now ≡ true → is_told_step (and_then more now) ≡ true
   behind more all (goes state placer) p = all state placer
   behind more all (ended files placer) p = refl
   behind more all (fails files cause pos placer) p = refl
@@ -243,7 +243,7 @@ module _ (contents : Contents) where
   behind more all (misses files) p = refl
   behind more all untold p = absurd (false≢true p)
 
-  of_steps : (known : Followed → Knowledge) (n : ℕ) (state : State) (placer : Followed) → is_told_step (steps placed_after known (Some contents) n state placer) ≡ true
+  of_steps : (known : FollowedSource → Knowledge) (n : ℕ) (state : State) (placer : FollowedSource) → is_told_step (steps placed_after known (Some contents) n state placer) ≡ true
   unfolding steps
   of_steps known zero state placer = refl
   of_steps known (suc n) state placer =

@@ -14,7 +14,7 @@ use Rattle.asm_macro.specs.declared.faults.ExpandFault.{ExpandFault}
 use Rattle.asm_macro.specs.declared.faults.ExpandFault.TheVariants as expand
 use Rattle.asm_macro.specs.Placing.{Step, ended, fails, refused, untold}
 use Rattle.asm_macro.specs.Starts.{IsFront, ReadsFront}
-use Rattle.asm_functions.specs.Followed.{Followed}
+use Rattle.asm_functions.specs.FollowedSource.{FollowedSource}
 use Rattle.asm_front.specs.Ending.{Flags}
 use Rattle.asm_front.specs.Assembly.{Assembly, assembled, faulty, macro_fault, included_by, assembly_by, nothing_yet, expansion_of, main_file, StepIsMade, IsMade}
 use Rattle.asm_front.specs.Outcome.{Assembles, AssemblesAs, CountsMissed, WithSynthesis, flags_of}
@@ -34,7 +34,7 @@ IsAnswered assembly (Err NoMemory) = Unit {0}
 
 -- what came of a source of this name, with what is placed and the files that were started then; a fault of the lines of the source comes
 -- before all statements
-abbrev pub came_of : Flags → List ℕ → List (List ℕ) → Followed → Result (Unit {0}) (ExpandFault FaultAt) → Step Followed FaultAt
+abbrev pub came_of : Flags → List ℕ → List (List ℕ) → FollowedSource → Result (Unit {0}) (ExpandFault FaultAt) → Step FollowedSource FaultAt
 came_of flags name files f (Ok u) = ended files f
 came_of flags name files f (Err (expand.Lines cause)) =
     fails (name ∷ []) (line_cause cause) (pos_at main_file (line_of_cause cause)) (nothing_yet flags)
@@ -44,7 +44,7 @@ came_of flags name files f (Err expand.Read) = untold
 came_of flags name files f (Err expand.NoMemory) = untold
 
 -- the answer by what came of the source: a fault of the input is handed on
-abbrev pub IsAnswer : Flags → List ℕ → List (List ℕ) → Followed → Result (Unit {0}) (ExpandFault FaultAt) → Result Assembled AsmFault → Type 0
+abbrev pub IsAnswer : Flags → List ℕ → List (List ℕ) → FollowedSource → Result (Unit {0}) (ExpandFault FaultAt) → Result Assembled AsmFault → Type 0
 IsAnswer flags name files f (Err expand.Read) result = result ≡ Err Read
 IsAnswer flags name files f expanded result = IsAnswered (assembly_by flags name (came_of flags name files f expanded)) result
 
@@ -101,12 +101,12 @@ TextIsMade flags None name text = Unit {0}
 TextIsMade flags (Some contents) name text = StepIsMade flags.scfi (expansion_of flags (Some contents) name text)
 
 -- the answer is that for what came of the source, and the numbers of its object fit
-pub record IsFitAnswer (flags : Flags) (name : List ℕ) (files : List (List ℕ)) (f : Followed) (expanded : Result (Unit {0}) (ExpandFault FaultAt)) (result : Result Assembled AsmFault) : Type 0 where
+pub record IsFitAnswer (flags : Flags) (name : List ℕ) (files : List (List ℕ)) (f : FollowedSource) (expanded : Result (Unit {0}) (ExpandFault FaultAt)) (result : Result Assembled AsmFault) : Type 0 where
   pub answer : IsAnswer flags name files f expanded result
   pub numbers : AnswerFits flags expanded f result
 
 -- the answer for the source with these options
-abbrev pub AnswersSource : Options → List (List ℕ) → Followed → Result (Unit {0}) (ExpandFault FaultAt) → Result Assembled AsmFault → Type 0
+abbrev pub AnswersSource : Options → List (List ℕ) → FollowedSource → Result (Unit {0}) (ExpandFault FaultAt) → Result Assembled AsmFault → Type 0
 AnswersSource options files f expanded result =
     WithSynthesis result (λ made. StepIsMade (flags_of options made).scfi (came_of (flags_of options made) (string_bytes options.file) files f expanded))
     (λ made. IsFitAnswer (flags_of options made) (string_bytes options.file) files f expanded result)

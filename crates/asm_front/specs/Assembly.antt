@@ -14,7 +14,7 @@ use Rattle.macro_words.specs.declared.causes.MacroCause.TheVariants as macros
 use Rattle.asm_macro.specs.Expansion.{started}
 use Rattle.asm_macro.specs.Placing.{Step, goes, ended, fails, refused, misses, untold, expansion, handed, most_turns}
 use Rattle.macro_words.specs.Conditions.{Knowledge}
-use Rattle.asm_functions.specs.Followed.{Followed, nothing_followed, place_followed, placed_part, notes_of}
+use Rattle.asm_functions.specs.FollowedSource.{FollowedSource, nothing_followed, place_followed, placed_part, notes_of}
 use Rattle.asm_place.specs.Sources.{pos_at, fault_at}
 use Rattle.asm_place.specs.declared.place_faults.FaultAt.{FaultAt}
 use Rattle.asm_front.specs.Ending.{Flags, followed_end}
@@ -73,15 +73,15 @@ abbrev pub is_asked : Flags → Bool
 is_asked flags = is_some flags.scfi
 
 -- nothing is placed yet
-abbrev pub nothing_yet : Flags → Followed
+abbrev pub nothing_yet : Flags → FollowedSource
 nothing_yet flags = nothing_followed flags.no_warn (is_asked flags)
 
 -- what comes of placing one statement that is handed out
-abbrev pub placed_after : Followed → TokenStatement → Result Followed FaultAt
+abbrev pub placed_after : FollowedSource → TokenStatement → Result FollowedSource FaultAt
 placed_after before statement = place_followed statement before
 
 -- what counts and conditions know there
-abbrev pub told_of : Followed → Knowledge
+abbrev pub told_of : FollowedSource → Knowledge
 told_of f = told_by f.placed
 
 -- the object of all that was placed, or the fault at the end
@@ -91,7 +91,7 @@ ended_by files (Err fault) = faulty fault files
 
 -- what a source of this name stands for, by what comes of its statements: a fault of expansion has the notes that were made before. Each
 -- list comes to its outcome, and none is untold where contents are told
-abbrev pub assembly_by : Flags → List ℕ → Step Followed FaultAt → Assembly
+abbrev pub assembly_by : Flags → List ℕ → Step FollowedSource FaultAt → Assembly
 assembly_by flags name (ended files f) = ended_by (shown_files name files) (followed_end flags f)
 assembly_by flags name (fails files cause pos f) = faulty (fault_at (Statement (macro_fault cause)) pos (notes_of f)) (shown_files name files)
 assembly_by flags name (refused files fault) = faulty fault (shown_files name files)
@@ -106,7 +106,7 @@ included_by (faulty fault files) = drop 1 files
 included_by (missing files) = drop 1 files
 
 -- what comes of the statements of a source of this name, where contents are told or not
-unfoldable pub expansion_of : Flags → Option Contents → List ℕ → List ℕ → Step Followed FaultAt
+unfoldable pub expansion_of : Flags → Option Contents → List ℕ → List ℕ → Step FollowedSource FaultAt
 expansion_of flags contents name source =
     expansion placed_after told_of contents (name ∷ []) (nothing_yet flags) (statements_of main_file source)
 
@@ -129,7 +129,7 @@ handed_of flags contents name source = map (placed_part (is_asked flags)) (hande
 -- WHAT SYNTHESIS COMES TO
 
 -- where a list comes to its end, this is what the functions come to, if they are followed
-abbrev pub StepIsMade : Option Synthesis → Step Followed FaultAt → Type 0
+abbrev pub StepIsMade : Option Synthesis → Step FollowedSource FaultAt → Type 0
 StepIsMade made (ended files f) = IsMadeAt made f
 StepIsMade made _ = Unit {0}
 

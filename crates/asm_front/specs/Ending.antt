@@ -26,7 +26,7 @@ use Rattle.asm_frags.specs.Writing.{LooseSection}
 use Rattle.asm_values.specs.State.{Placed}
 use Rattle.asm_place.specs.Sources.{fault_at}
 use Rattle.asm_place.specs.declared.place_faults.FaultAt.{FaultAt}
-use Rattle.asm_functions.specs.Followed.{Followed, notes_of}
+use Rattle.asm_functions.specs.FollowedSource.{FollowedSource, notes_of}
 use Rattle.asm_front.specs.Synthesis.{Synthesis}
 use Rattle.asm_front.specs.declared.ending.Ended.{Ended}
 use Rattle.asm_front.specs.declared.ending.NotedObject.{NotedObject}
@@ -152,7 +152,7 @@ unless_fault (Some (Ok frames)) notes answer = answer
 unless_fault (Some (Err at)) notes answer = Err (fault_at (Scfi at.fault) at.pos notes)
 
 -- the object of all that was placed and followed, or the first fault at the end: those of functions come before all others
-abbrev pub followed_end : Flags → Followed → Result NotedObject FaultAt
+abbrev pub followed_end : Flags → FollowedSource → Result NotedObject FaultAt
 followed_end flags f =
     unless_fault flags.scfi (notes_of f)
     (finished flags.fatal_warnings f.placed.sections f.placed.table (procedures_by flags.scfi f.placed.procedures) (notes_of f))

@@ -22,7 +22,7 @@ use Rattle.object_laws.specs.SectionPlaces.{SectionsFound}
 use Rattle.asm_macro.specs.Placing.{Step, ended}
 use Rattle.asm_macro.specs.declared.faults.ExpandFault.{ExpandFault}
 use Rattle.asm_place.specs.declared.place_faults.FaultAt.{FaultAt}
-use Rattle.asm_functions.specs.Followed.{Followed}
+use Rattle.asm_functions.specs.FollowedSource.{FollowedSource}
 use Rattle.asm_front.specs.Synthesis.{Synthesis, ComeTo, IsMadeAt}
 use Rattle.asm_front.specs.Ending.{Flags, with_frames, framed, finished, procedures_by, with_made, unless_fault, followed_end}
 use Rattle.asm_front.specs.Outcome.{flags_of}
@@ -46,7 +46,7 @@ TablesFit (Ok tables) = LayoutFits tables.symbols (layout_of tables.symbols tabl
 TablesFit (Err cause) = Unit {0}
 
 -- where the list came to its end and there is an object, so do those of what was placed
-abbrev pub AnswerFits : Flags → Result (Unit {0}) (ExpandFault FaultAt) → Followed → Result Assembled AsmFault → Type 0
+abbrev pub AnswerFits : Flags → Result (Unit {0}) (ExpandFault FaultAt) → FollowedSource → Result Assembled AsmFault → Type 0
 AnswerFits flags (Ok u) f (Ok made) = TablesFit (framed (with_made flags.scfi f.placed))
 AnswerFits flags (Ok u) f (Err fault) = Unit {0}
 AnswerFits flags (Err stop) f result = Unit {0}
@@ -65,20 +65,20 @@ AnswersWithFrames fatal sections table functions notes (Err (refusal.Fault at)) 
 AnswersWithFrames fatal sections table functions notes (Err refusal.NoMemory) = Unit {0}
 
 -- the object of all that was placed and followed, or the fault at the end, by what synthesis comes to
-pub record EndsFollowed (options : Options) (f : Followed) (answer : Result NotedObject FaultAt) : Type 0 where
+pub record EndsFollowed (options : Options) (f : FollowedSource) (answer : Result NotedObject FaultAt) : Type 0 where
   pub made : Synthesis
   pub comes : IsMadeAt (flags_of options made).scfi f
   pub answers : followed_end (flags_of options made) f ≡ answer
   pub fits : OnOk answer (TablesFit (framed (with_made (flags_of options made).scfi f.placed)))
 
 -- the call answers so
-abbrev pub AnswersFollowed : Options → Followed → Result NotedObject (Refusal FaultAt) → Type 0
+abbrev pub AnswersFollowed : Options → FollowedSource → Result NotedObject (Refusal FaultAt) → Type 0
 AnswersFollowed options f (Ok made) = EndsFollowed options f (Ok made)
 AnswersFollowed options f (Err (refusal.Fault at)) = EndsFollowed options f (Err at)
 AnswersFollowed options f (Err refusal.NoMemory) = Unit {0}
 
 -- where a list comes to its end, so do those of what it places
-abbrev pub StepFits : Flags → Step Followed FaultAt → Type 0
+abbrev pub StepFits : Flags → Step FollowedSource FaultAt → Type 0
 StepFits flags (ended files f) = TablesFit (framed (with_made flags.scfi f.placed))
 StepFits flags _ = Unit {0}
 

@@ -21,7 +21,7 @@ use Rattle.flow_graph.specs.Nodes.{nodes_of}
 use Rattle.scfi_pass.specs.declared.item_ops.ItemOp.{ItemOp}
 use Rattle.scfi_pass.specs.declared.walked.ItemFault.{ItemFault}
 use Rattle.scfi_pass.specs.Synthesis.{IsTableOf, IsFaultOf}
-use Rattle.asm_functions.specs.Followed.{Followed, nothing_followed, follow_all}
+use Rattle.asm_functions.specs.FollowedSource.{FollowedSource, nothing_followed, follow_all}
 use Rattle.asm_functions.specs.Following.{end_of}
 use Rattle.asm_front.specs.declared.synthesizing.ItemFaultAt.{ItemFaultAt}
 
@@ -100,13 +100,13 @@ ComeTo symbols sections functions (Ok frames) = AreFrames symbols sections funct
 ComeTo symbols sections functions (Err at) = IsFirstRefused symbols sections functions at
 
 -- what the functions of all that was placed come to. They are seen as what was recorded, and those that are open end where their sections do
-pub record IsSynthesis (f : Followed) (made : Synthesis) : Type 0 where
+pub record IsSynthesis (f : FollowedSource) (made : Synthesis) : Type 0 where
   pub functions : List (Recorded CodeItem)
   pub seen : all_seen functions ≡ f.functions
   pub comes : ComeTo f.placed.table.symbols f.placed.sections (all_closed (end_of f.placed.sections) functions) made
 
 -- the same, where frame tables are to be worked out
-abbrev pub IsMadeAt : Option Synthesis → Followed → Type 0
+abbrev pub IsMadeAt : Option Synthesis → FollowedSource → Type 0
 IsMadeAt None f = Unit {0}
 IsMadeAt (Some made) f = IsSynthesis f made
 
@@ -138,12 +138,12 @@ AnswersFrames symbols sections functions (Err refusal.NoMemory) = Unit {0}
 -- STATES OF A PLACER
 
 -- statements come to the state, one after the other
-pub record IsComeTo (f : Followed) : Type 0 where
+pub record IsComeTo (f : FollowedSource) : Type 0 where
   pub no_warn : Bool
   pub asked : Bool
   pub statements : List TokenStatement
   pub comes : follow_all statements (nothing_followed no_warn asked) ≡ Ok f
 
 -- so they do, or no function is followed, as it is behind a fault
-abbrev pub IsOrdered : Followed → Type 0
+abbrev pub IsOrdered : FollowedSource → Type 0
 IsOrdered f = IsComeTo f ⊎ ((f.asked ≡ false) × (f.functions ≡ []))

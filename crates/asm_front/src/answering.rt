@@ -2,7 +2,7 @@
 
 ghost use Rattle.std.specs.Prelude.{◌≡◌, [], IfOk, OnOk, string_bytes};
 ghost use Rattle.asm_base.specs.declared.faults.Fault.TheVariants.{Statement};
-ghost use Rattle.asm_functions.specs.Followed.{notes_of};
+ghost use Rattle.asm_functions.specs.FollowedSource.{notes_of};
 ghost use Rattle.asm_place.specs.Sources.{pos_at, fault_at};
 ghost use Rattle.asm_front.specs.Answering.{AnswersSmall, AnswersSource, IsAnswered, line_answer};
 ghost use Rattle.asm_front.specs.Assembly as spec;

@@ -2,7 +2,7 @@
 
 ghost use Rattle.std.specs.Prelude.{◌≡◌, ℕ, List, Some, Err, false};
 ghost use Rattle.asm_base.specs.Inputs.{Contents};
-ghost use Rattle.asm_functions.specs.Followed.{Followed};
+ghost use Rattle.asm_functions.specs.FollowedSource.{FollowedSource};
 ghost use Rattle.asm_macro.specs.Placing.{untold};
 ghost use Rattle.asm_place.specs.Faults.{is_file_too_large};
 ghost use Rattle.asm_place.specs.declared.place_faults.FaultAt.{FaultAt};
@@ -37,8 +37,8 @@ use x86_table::read_one_way;
 
 /// Only the reading of files calls one too large: the end of a source does not.
 pub fn the_end_is_no_reading()
-    ensures { (flags : Flags) (f : Followed) (fault : FaultAt) → followed_end flags f ≡ Err fault
-        → is_file_too_large fault.fault ≡ false }
+    ensures { (flags : Flags) (f : FollowedSource) (fault : FaultAt)
+        → followed_end flags f ≡ Err fault → is_file_too_large fault.fault ≡ false }
 {}
 
 /// Where contents are told, no file that a source starts is untold.
@@ -49,7 +49,7 @@ pub fn told_files_are_known()
 
 /// What the functions of a source come to is one thing: of all that was placed and followed there is one synthesis.
 pub fn synthesis_is_one()
-    ensures { (f : Followed) (one other : Synthesis) → IsSynthesis f one → IsSynthesis f other
+    ensures { (f : FollowedSource) (one other : Synthesis) → IsSynthesis f one → IsSynthesis f other
         → one ≡ other }
 {
     answers_are_one();

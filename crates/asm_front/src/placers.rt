@@ -54,10 +54,10 @@ pub(crate) struct SourcePlacer {
 }
 
 impl Model for SourcePlacer {
-    ghost use Rattle.asm_functions.specs.Followed.{Followed};
+    ghost use Rattle.asm_functions.specs.FollowedSource.{FollowedSource};
     ghost use Rattle.asm_front.specs.Synthesis.{IsOrdered};
 
-    ghost Value = { Followed };
+    ghost Value = { FollowedSource };
 
     ghost view = { λ placer. placer.following };
 
@@ -78,7 +78,7 @@ fn forget(following: &mut FollowingPlacer)
 
 impl SourcePlacer {
     ghost use Rattle.std.specs.Prelude.{◌≡◌, All, IfOk};
-    ghost use Rattle.asm_functions.specs.Followed.{nothing_followed, notes_of};
+    ghost use Rattle.asm_functions.specs.FollowedSource.{nothing_followed, notes_of};
     ghost use Rattle.code_functions.specs.Seen.{all_seen};
     ghost use Rattle.asm_front.specs.Synthesis.{IsReady};
 
@@ -128,7 +128,7 @@ impl SourcePlacer {
 }
 
 impl Placer for SourcePlacer {
-    ghost use Rattle.asm_functions.specs.Followed.{place_followed};
+    ghost use Rattle.asm_functions.specs.FollowedSource.{place_followed};
 
     type Fault = StatementRefusal;
 

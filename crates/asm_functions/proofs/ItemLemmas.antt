@@ -15,7 +15,7 @@ use Rattle.asm_place.specs.declared.place_faults.FaultAt.{FaultAt}
 use Rattle.code_functions.specs.Recorded.{Recorded, added, is_split}
 use Rattle.code_functions.specs.Seen.{SeenItem}
 use Rattle.asm_functions.specs.Following.{end_of, fields_in, item_seen, effect_item, with_insn, follow_insn}
-use Rattle.asm_functions.specs.Followed.{Followed, at, with_functions, unless_split, insn_followed}
+use Rattle.asm_functions.specs.FollowedSource.{FollowedSource, at, with_functions, unless_split, insn_followed}
 use Rattle.asm_functions.specs.Refusals.{IsSplitFault}
 
 insn_seen : (view : Option View) (effect : Effect) (pos : Pos) (place : Place) (before after : ℕ) → ShowsInsn view effect
@@ -23,7 +23,7 @@ insn_seen : (view : Option View) (effect : Effect) (pos : Pos) (place : Place) (
 insn_seen None effect pos place before after shows = ap (λ e. effect_item e pos place before after) shows
 insn_seen (Some view) effect pos place before after shows = rw (shows.effect, shows.flow, shows.supported, shows.no_padding, shows.no_data) refl
 
-module _ (pos : Pos) (tokens : List SpelledToken) (f : Followed) where
+module _ (pos : Pos) (tokens : List SpelledToken) (f : FollowedSource) where
   -- what comes of an instruction that is placed
   placed_so : (after : Placed) (split : Bool) → place (at pos tokens) f.placed ≡ Ok after → is_split f.placed.current f.functions ≡ split
       → insn_followed (at pos tokens) f ≡ unless_split pos f after (cond split None (Some (with_insn pos tokens f.placed after f.functions)))

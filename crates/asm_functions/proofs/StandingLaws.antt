@@ -28,7 +28,7 @@ use Rattle.x86_insn.specs.Views.{View}
 use Rattle.code_functions.specs.Recorded.{Recorded, added, is_split}
 use Rattle.code_functions.specs.Seen.{SeenItem, data_item}
 use Rattle.asm_functions.specs.Following.{end_of, fields_in, same_place, function_label, begun_by, labels_begun, with_data, with_moved, has_operands, plain_item, with_align, is_function, ended, with_kind, ended_of, with_size, follow_directive, item_seen, with_insn}
-use Rattle.asm_functions.specs.Followed.{Followed, with_placed, with_functions, remarked, ignored_by, place_of, stepped, is_frame, unless_split, body_followed, labels_followed, statement_followed, place_followed, follow_all}
+use Rattle.asm_functions.specs.FollowedSource.{FollowedSource, with_placed, with_functions, remarked, ignored_by, place_of, stepped, is_frame, unless_split, body_followed, labels_followed, statement_followed, place_followed, follow_all}
 use Rattle.asm_functions.specs.Standing.{StandsInOrder}
 use Rattle.asm_functions.proofs.StandingLemmas.{all_grown, added_stand, all_closed_stand, closed_of_stand, begun_stand}
 
@@ -135,25 +135,25 @@ module _ (pos : Pos) (before : Placed) (within : AreWithin before.sections) (sta
 -- ALL STATEMENTS
 
 -- a state in which they do
-record Sound (f : Followed) : Type 0 where
+record Sound (f : FollowedSource) : Type 0 where
   within : AreWithin f.placed.sections
   places : PlacesStand f.placed
   stand : Stand f.placed.sections f.functions
 
 -- an answer keeps it so
-abbrev Keeps : Result Followed FaultAt → Type 0
-Keeps answer = (g : Followed) → answer ≡ Ok g → Sound g
+abbrev Keeps : Result FollowedSource FaultAt → Type 0
+Keeps answer = (g : FollowedSource) → answer ≡ Ok g → Sound g
 
 same_Ok : {A E : Type 0} (x y : A) → ◌≡◌ {A = Result A E} (Ok x) (Ok y) → x ≡ y
 same_Ok x y is = ap (λ r. elim r [ Ok made ↦ made | Err fault ↦ x ]) is
 
-ok_keeps : (f : Followed) → Sound f → Keeps (Ok f)
+ok_keeps : (f : FollowedSource) → Sound f → Keeps (Ok f)
 ok_keeps f sound g is = subst Sound (same_Ok f g is) sound
 
 err_keeps : (stop : FaultAt) → Keeps (Err stop)
 err_keeps stop g is = absurd (cc)
 
-then_keeps : {A : Type 0} (r : Result A FaultAt) (next : A → Result Followed FaultAt) → ((x : A) → r ≡ Ok x → Keeps (next x)) → Keeps (r >>= next)
+then_keeps : {A : Type 0} (r : Result A FaultAt) (next : A → Result FollowedSource FaultAt) → ((x : A) → r ≡ Ok x → Keeps (next x)) → Keeps (r >>= next)
 then_keeps (Ok x) next later = later x refl
 then_keeps (Err stop) next later = err_keeps stop
 
@@ -166,38 +166,38 @@ module _ (grows : (statements : List TokenStatement) (before placed : Placed) �
   alone s before after is = ap (λ r. r >>= place_all []) is
 
   -- behind a statement that is placed functions stand that stood before, or that it changed so
-  behind : (s : TokenStatement) (f : Followed) (after : Placed) (functions : List (Recorded SeenItem)) → Sound f → place s f.placed ≡ Ok after
+  behind : (s : TokenStatement) (f : FollowedSource) (after : Placed) (functions : List (Recorded SeenItem)) → Sound f → place s f.placed ≡ Ok after
       → (Grows f.placed.sections after.sections → AreWithin after.sections → Stand after.sections functions) → Sound (with_functions f after functions)
   behind s f after functions sound is changed =
       let only = alone s f.placed after is in
       let within = withins (s ∷ []) f.placed after only sound.within in
       record { within = within; places = stands (s ∷ []) f.placed after only sound.places; stand = changed (grows (s ∷ []) f.placed after only) within }
 
-  stepped_keeps : (s : TokenStatement) (change : Placed → Placed → List (Recorded SeenItem) → List (Recorded SeenItem)) (f : Followed) → Sound f
+  stepped_keeps : (s : TokenStatement) (change : Placed → Placed → List (Recorded SeenItem) → List (Recorded SeenItem)) (f : FollowedSource) → Sound f
       → ((after : Placed) → Grows f.placed.sections after.sections → AreWithin after.sections → Stand after.sections (change f.placed after f.functions))
       → Keeps (stepped s change f)
   stepped_keeps s change f sound changed =
       then_keeps (place s f.placed) _ (λ after is. ok_keeps _ (behind s f after (change f.placed after f.functions) sound is (changed after)))
 
-  other_keeps : (s : TokenStatement) (f : Followed) → Sound f → Keeps (stepped s (λ there after functions. functions) f)
+  other_keeps : (s : TokenStatement) (f : FollowedSource) → Sound f → Keeps (stepped s (λ there after functions. functions) f)
   other_keeps s f sound =
       stepped_keeps s (λ there after functions. functions) f sound (λ after more later. still (place_of s) f.placed after more sound.within later f.functions sound.stand)
 
-  directive_keeps : (frame : Bool) (found : Directive) (s : TokenStatement) (f : Followed) → Sound f
+  directive_keeps : (frame : Bool) (found : Directive) (s : TokenStatement) (f : FollowedSource) → Sound f
       → Keeps (cond frame (Ok (ignored_by (place_of s) f)) (stepped s (follow_directive found (place_of s) (drop 1 s.tokens)) f))
   directive_keeps true found s f sound = ok_keeps (ignored_by (place_of s) f) (record { within = sound.within; places = sound.places; stand = sound.stand })
   directive_keeps false found s f sound =
       stepped_keeps s (follow_directive found (place_of s) (drop 1 s.tokens)) f sound
       (λ after more later. directive_stand (place_of s) f.placed after more sound.within later f.functions sound.stand found (drop 1 s.tokens))
 
-  split_keeps : (split : Bool) (s : TokenStatement) (f : Followed) (after : Placed) → Sound f → place s f.placed ≡ Ok after
+  split_keeps : (split : Bool) (s : TokenStatement) (f : FollowedSource) (after : Placed) → Sound f → place s f.placed ≡ Ok after
       → Keeps (unless_split (place_of s) f after (cond split None (Some (with_insn (place_of s) s.tokens f.placed after f.functions))))
   split_keeps true s f after sound is = err_keeps _
   split_keeps false s f after sound is =
       ok_keeps _ (behind s f after (with_insn (place_of s) s.tokens f.placed after f.functions) sound is
       (λ more later. insn_stand (place_of s) f.placed after more sound.within later f.functions sound.stand s.tokens))
 
-  body_keeps : (kind : Body) (s : TokenStatement) (f : Followed) → Sound f → Keeps (body_followed kind s f)
+  body_keeps : (kind : Body) (s : TokenStatement) (f : FollowedSource) → Sound f → Keeps (body_followed kind s f)
   body_keeps body.Nothing s f sound = other_keeps s f sound
   body_keeps body.Assignment s f sound = other_keeps s f sound
   body_keeps (body.Directed None) s f sound = other_keeps s f sound
@@ -206,40 +206,40 @@ module _ (grows : (statements : List TokenStatement) (before placed : Placed) �
       then_keeps (place s f.placed) _ (λ after is. split_keeps (is_split f.placed.current f.functions) s f after sound is)
   body_keeps body.Unknown s f sound = other_keeps s f sound
 
-  labels_keep : (s : TokenStatement) (f : Followed) → Sound f → Keeps (labels_followed s f)
+  labels_keep : (s : TokenStatement) (f : FollowedSource) → Sound f → Keeps (labels_followed s f)
   labels_keep s f sound =
       stepped_keeps (front s) (λ before there. labels_begun (place_of s) (labels_of s.tokens) before) f sound
       (λ after more later. all_grown f.placed.sections after.sections more _
       (labels_stand (place_of s) f.placed sound.within sound.places (labels_of s.tokens) f.functions sound.stand))
 
-  statement_keeps : (s : TokenStatement) (f : Followed) → Sound f → Keeps (statement_followed s f)
+  statement_keeps : (s : TokenStatement) (f : FollowedSource) → Sound f → Keeps (statement_followed s f)
   unfolding statement_followed
   statement_keeps s f sound =
       then_keeps (labels_followed s f) _ (λ there is. body_keeps (body_of (behind_labels s.tokens)) (back s) there (labels_keep s f sound there is))
 
-  remarked_keeps : (f : Followed) (answer : Result Followed FaultAt) → Keeps answer → Keeps (remarked f answer)
+  remarked_keeps : (f : FollowedSource) (answer : Result FollowedSource FaultAt) → Keeps answer → Keeps (remarked f answer)
   remarked_keeps f (Ok more) keeps = keeps
   remarked_keeps f (Err stop) keeps = err_keeps _
 
-  placed_keeps : (s : TokenStatement) (f : Followed) → Sound f → Keeps (place s f.placed >>= (λ after. Ok (with_placed f after)))
+  placed_keeps : (s : TokenStatement) (f : FollowedSource) → Sound f → Keeps (place s f.placed >>= (λ after. Ok (with_placed f after)))
   placed_keeps s f sound = other_keeps s f sound
 
-  followed_keeps : (asked : Bool) (s : TokenStatement) (f : Followed) → Sound f
+  followed_keeps : (asked : Bool) (s : TokenStatement) (f : FollowedSource) → Sound f
       → Keeps (cond asked (remarked f (statement_followed s f)) (place s f.placed >>= (λ after. Ok (with_placed f after))))
   followed_keeps true s f sound = remarked_keeps f (statement_followed s f) (statement_keeps s f sound)
   followed_keeps false s f sound = placed_keeps s f sound
 
-  all_keep : (statements : List TokenStatement) (f : Followed) → Sound f → Keeps (follow_all statements f)
+  all_keep : (statements : List TokenStatement) (f : FollowedSource) → Sound f → Keeps (follow_all statements f)
   unfolding follow_all place_followed
   all_keep [] f sound = ok_keeps f sound
   all_keep (s ∷ later) f sound = then_keeps (place_followed s f) (follow_all later) (λ there is. all_keep later there (followed_keeps f.asked s f sound there is))
 
   -- functions that stand in order stand so behind all statements
-  pub all_stand : (statements : List TokenStatement) (f g : Followed) → AreWithin f.placed.sections → PlacesStand f.placed → All (StandsInOrder f.placed.sections) f.functions
+  pub all_stand : (statements : List TokenStatement) (f g : FollowedSource) → AreWithin f.placed.sections → PlacesStand f.placed → All (StandsInOrder f.placed.sections) f.functions
       → follow_all statements f ≡ Ok g → All (StandsInOrder g.placed.sections) g.functions
   all_stand statements f g within places stand is = (all_keep statements f (record { within = within; places = places; stand = stand }) g is).stand
 
   -- and fields and items stand within their sections
-  pub all_within : (statements : List TokenStatement) (f g : Followed) → AreWithin f.placed.sections → PlacesStand f.placed → All (StandsInOrder f.placed.sections) f.functions
+  pub all_within : (statements : List TokenStatement) (f g : FollowedSource) → AreWithin f.placed.sections → PlacesStand f.placed → All (StandsInOrder f.placed.sections) f.functions
       → follow_all statements f ≡ Ok g → AreWithin g.placed.sections
   all_within statements f g within places stand is = (all_keep statements f (record { within = within; places = places; stand = stand }) g is).within

@@ -1,6 +1,6 @@
 -- The definitions that contracts cite, in reading order.
 pub mod Following
-pub mod Followed
+pub mod FollowedSource
 pub mod Refusals
 pub mod Standing
 pub mod Worked

@@ -9,7 +9,7 @@ use Rattle.asm_base.specs.declared.refusals.Refusal.TheVariants as refusal
 use Rattle.asm_place.specs.declared.place_faults.FaultAt.{FaultAt}
 use Rattle.asm_place.specs.Sources.{fault_at}
 use Rattle.asm_functions.specs.declared.remarks.Ignored.{Ignored}
-use Rattle.asm_functions.specs.Followed.{remarked_at}
+use Rattle.asm_functions.specs.FollowedSource.{remarked_at}
 
 -- the same refusal with the remark among its notes; want of memory may take its place
 abbrev pub IsRemarked : (no_warn : Bool) → Option Ignored → (before after : Refusal FaultAt) → Type 0

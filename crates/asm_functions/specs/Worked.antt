@@ -9,7 +9,7 @@ use Rattle.insn_effects.specs.Flows.{onward, jumps, calls, through}
 use Rattle.code_functions.specs.Recorded.{Recorded}
 use Rattle.code_functions.specs.Seen.{SeenItem, data_item, padding_item, target_field}
 use Rattle.asm_functions.specs.Following.{is_function, data_since, align_item}
-use Rattle.asm_functions.specs.Followed.{first_ignored, with_remark}
+use Rattle.asm_functions.specs.FollowedSource.{first_ignored, with_remark}
 
 -- a line, and a place behind so many plain bytes
 abbrev pub on_line : ℕ → Pos

@@ -6,7 +6,7 @@ ghost use Rattle.asm_base.specs.Tokens.{spelled};
 ghost use Rattle.asm_operands.specs.Operands.{begins_with_label};
 ghost use Rattle.asm_place.specs.Instructions.{behind_labels};
 ghost use Rattle.asm_place.specs.Sources.{place};
-ghost use Rattle.asm_functions.specs.Followed.{at};
+ghost use Rattle.asm_functions.specs.FollowedSource.{at};
 ghost use Rattle.asm_functions.specs.Following.{has_operands};
 ghost use Rattle.asm_functions.specs.Following as spec;
 ghost use Rattle.asm_functions.specs.Refusals.{IsSplitFault};
@@ -39,9 +39,9 @@ pub struct FollowingPlacer {
 }
 
 impl Model for FollowingPlacer {
-    ghost use Rattle.asm_functions.specs.Followed.{Followed};
+    ghost use Rattle.asm_functions.specs.FollowedSource.{FollowedSource};
 
-    ghost Value = { Followed };
+    ghost Value = { FollowedSource };
 
     ghost view = { λ placer. record {
       placed = placer.statements;
@@ -133,8 +133,8 @@ impl FollowingPlacer {
     ghost use Rattle.asm_words.specs.SymbolKinds.{named_kind};
     ghost use Rattle.asm_place.specs.Effects.{fill_said};
     ghost use Rattle.asm_functions.specs.Following.{labels_begun, with_data, with_moved, with_kind, with_size, with_align};
-    ghost use Rattle.asm_functions.specs.Followed as state;
-    ghost use Rattle.asm_functions.specs.Followed.{at, stepped};
+    ghost use Rattle.asm_functions.specs.FollowedSource as state;
+    ghost use Rattle.asm_functions.specs.FollowedSource.{at, stepped};
 
     /// Nothing is placed yet.
     pub fn new(alloc: Global, no_warn: bool, asked: bool) -> Result<FollowingPlacer, NoMemory>
@@ -355,7 +355,7 @@ impl FollowingPlacer {
     }
 
     /// A statement: its labels, and then what stands behind them.
-    #[tactic(auto, unfolding(crate::specs::Followed::statement_followed))]
+    #[tactic(auto, unfolding(crate::specs::FollowedSource::statement_followed))]
     fn follow(&mut self, pos: Pos, tokens: &[Token]) -> Result<(), Refusal<BoxedFault>>
         ensures { Gives self.new result
             (state.statement_followed (at pos (map spelled tokens.now)) self.old) }
@@ -383,13 +383,13 @@ impl FollowingPlacer {
 }
 
 impl Placer for FollowingPlacer {
-    ghost use Rattle.asm_functions.specs.Followed.{place_followed};
+    ghost use Rattle.asm_functions.specs.FollowedSource.{place_followed};
 
     type Fault = BoxedFault;
 
     ghost placed = { λ before statement. place_followed statement before };
 
-    #[tactic(auto, unfolding(crate::specs::Followed::place_followed))]
+    #[tactic(auto, unfolding(crate::specs::FollowedSource::place_followed))]
     #[inline(always)]
     fn place(&mut self, pos: Pos, tokens: &[Token]) -> Result<(), Refusal<BoxedFault>> {
         if self.asked {

@@ -11,7 +11,7 @@ ghost use Rattle.code_functions.specs.declared.items.CodeItem.{CodeItem};
 ghost use Rattle.code_functions.specs.InOrder.{AreInOrder};
 ghost use Rattle.code_functions.specs.Recorded.{Recorded, items_of};
 ghost use Rattle.code_functions.specs.Seen.{all_seen};
-ghost use Rattle.asm_functions.specs.Followed.{Followed, nothing_followed, place_followed, follow_all, functions_at_end, placed_alone, placed_part};
+ghost use Rattle.asm_functions.specs.FollowedSource.{FollowedSource, nothing_followed, place_followed, follow_all, functions_at_end, placed_alone, placed_part};
 ghost use Rattle.asm_functions.specs.Standing.{StandsInOrder};
 ghost use Rattle.asm_functions.specs.Worked.{WorkedSteps};
 
@@ -22,7 +22,7 @@ use asm_place::{
 /// Statements that are followed as they are handed out are followed in order.
 #[tactic(auto, using(crate::proofs::FollowingLaws::in_order))]
 pub fn following_in_order()
-    ensures { (statements : List TokenStatement) (before : Followed)
+    ensures { (statements : List TokenStatement) (before : FollowedSource)
         → placed_in_order (λ followed statement. place_followed statement followed) before
         statements ≡ follow_all statements before }
 {}
@@ -31,12 +31,12 @@ pub fn following_in_order()
 /// of a frame table the labels alone are placed where functions are asked for. Where they are not,
 /// following is placing, and its faults are those of placing.
 pub fn following_is_placing()
-    ensures placed { (statements : List TokenStatement) (before f : Followed)
+    ensures placed { (statements : List TokenStatement) (before f : FollowedSource)
         → follow_all statements before ≡ Ok f
         → place_all (map (placed_part before.asked) statements) before.placed ≡ Ok f.placed }
-    ensures asked { (statements : List TokenStatement) (before f : Followed)
+    ensures asked { (statements : List TokenStatement) (before f : FollowedSource)
         → follow_all statements before ≡ Ok f → f.asked ≡ before.asked }
-    ensures unasked { (statements : List TokenStatement) (before : Followed)
+    ensures unasked { (statements : List TokenStatement) (before : FollowedSource)
         → before.asked ≡ false
         → follow_all statements before ≡ placed_alone statements before }
 {
@@ -47,10 +47,10 @@ pub fn following_is_placing()
 /// those that have ended have ended behind their items. So it is too once all have ended at the end
 /// of their sections.
 pub fn functions_stand_in_order()
-    ensures so_far { (statements : List TokenStatement) (no_warn asked : Bool) (f : Followed)
+    ensures so_far { (statements : List TokenStatement) (no_warn asked : Bool) (f : FollowedSource)
         → follow_all statements (nothing_followed no_warn asked) ≡ Ok f
         → All (StandsInOrder f.placed.sections) f.functions }
-    ensures whole { (statements : List TokenStatement) (no_warn asked : Bool) (f : Followed)
+    ensures whole { (statements : List TokenStatement) (no_warn asked : Bool) (f : FollowedSource)
         → follow_all statements (nothing_followed no_warn asked) ≡ Ok f
         → All (StandsInOrder f.placed.sections) (functions_at_end f) }
 {
@@ -68,9 +68,9 @@ pub fn standing_items_are_in_order()
 
 /// Only the reading of a file calls it too large: no step of following does.
 pub fn following_is_not_reading()
-    ensures one { (statement : TokenStatement) (before : Followed) (stop : FaultAt)
+    ensures one { (statement : TokenStatement) (before : FollowedSource) (stop : FaultAt)
         → place_followed statement before ≡ Err stop → is_file_too_large stop.fault ≡ false }
-    ensures all { (statements : List TokenStatement) (before : Followed) (stop : FaultAt)
+    ensures all { (statements : List TokenStatement) (before : FollowedSource) (stop : FaultAt)
         → follow_all statements before ≡ Err stop → is_file_too_large stop.fault ≡ false }
 {
     placing_is_not_reading();

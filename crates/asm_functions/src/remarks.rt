@@ -1,7 +1,7 @@
 //! The note that directives of frame tables are ignored, where frame tables are worked out.
 
 ghost use Rattle.std.specs.Prelude.{◌≡◌, ◌++◌, take, drop, OnOk, IfOk, false, Some};
-ghost use Rattle.asm_functions.specs.Followed.{with_remark};
+ghost use Rattle.asm_functions.specs.FollowedSource.{with_remark};
 ghost use Rattle.asm_functions.specs.Refusals.{IsRemarked};
 
 use asm_base::{NoMemory, Note, Noted, Notes, Pos, Refusal, Text};

@@ -6,7 +6,7 @@ use Rattle.asm_base.specs.WholeFile.{most_bytes}
 use Rattle.asm_lines.specs.Statements.{statements_of}
 use Rattle.asm_macro.specs.Placing.{Step, goes, ended, fails, refused, misses, untold, expansion}
 use Rattle.asm_place.specs.declared.place_faults.FaultAt.{FaultAt}
-use Rattle.asm_functions.specs.Followed.{Followed, nothing_followed}
+use Rattle.asm_functions.specs.FollowedSource.{FollowedSource, nothing_followed}
 use Rattle.asm_front.specs.Synthesis.{Synthesis, IsSynthesis}
 use Rattle.asm_front.specs.Ending.{Flags}
 use Rattle.asm_front.specs.Assembly.{faulty, main_file, too_large, shown_files, placed_after, told_of, assembly_by, expansion_of, assembly_of, StepIsMade, SourceIsMade, FileIsMade, IsMade}
@@ -15,14 +15,14 @@ use Rattle.asm_run.specs.Outcome.{flags_by, source_outcome, file_outcome, invoca
 
 -- of all that was placed and followed there is one synthesis
 abbrev pub Law : Type 0
-Law = (f : Followed) (one other : Synthesis) → IsSynthesis f one → IsSynthesis f other → one ≡ other
+Law = (f : FollowedSource) (one other : Synthesis) → IsSynthesis f one → IsSynthesis f other → one ≡ other
 
 module _ (law : Law) (no_warn fatal : Bool) where
   -- the flags, where frame tables are to be worked out and where they are not
   abbrev with_asked : Bool → Synthesis → Flags
   with_asked asked made = record { no_warn = no_warn; fatal_warnings = fatal; scfi = cond asked (Some made) None }
 
-  step_is_one : (name : List ℕ) (step : Step Followed FaultAt) (one other : Synthesis) → StepIsMade (Some one) step → StepIsMade (Some other) step
+  step_is_one : (name : List ℕ) (step : Step FollowedSource FaultAt) (one other : Synthesis) → StepIsMade (Some one) step → StepIsMade (Some other) step
       → assembly_by (with_asked true one) name step ≡ assembly_by (with_asked true other) name step
   step_is_one name (ended files f) one other is also = ap (λ made. assembly_by (with_asked true made) name (ended files f)) (law f one other is also)
   step_is_one name (fails files cause pos f) one other is also = refl
@@ -33,7 +33,7 @@ module _ (law : Law) (no_warn fatal : Bool) where
 
   module _ (contents : Contents) (name source : List ℕ) where
     -- what comes of the source where functions are followed
-    abbrev came : Step Followed FaultAt
+    abbrev came : Step FollowedSource FaultAt
     came = expansion placed_after told_of (Some contents) (name ∷ []) (nothing_followed no_warn true) (statements_of main_file source)
 
     by_size : (large : Bool) → nat_lt most_bytes (length source) ≡ large → (one other : Synthesis) → (length source ≤ most_bytes → StepIsMade (Some one) came)
@@ -65,7 +65,7 @@ module _ (law : Law) (invocation : Invocation) (one other : Synthesis) where
   invocation_is_one (Some contents) is also = ap Some (file_is_one contents (contents invocation.file) is also)
 
 -- what a command stands for is one thing
-pub command_is_one : ((f : Followed) (one other : Synthesis) → IsSynthesis f one → IsSynthesis f other → one ≡ other) → (command : Option Invocation) (contents : Option Contents)
+pub command_is_one : ((f : FollowedSource) (one other : Synthesis) → IsSynthesis f one → IsSynthesis f other → one ≡ other) → (command : Option Invocation) (contents : Option Contents)
     (one other : Synthesis) → CommandIsMade command contents one → CommandIsMade command contents other → command_outcome command one contents ≡ command_outcome command other contents
 command_is_one law None contents one other is also = refl
 command_is_one law (Some invocation) contents one other is also = invocation_is_one law invocation one other contents is also

@@ -79,7 +79,7 @@ use Rattle.eh_frame.specs.Placing.{placed}
 use Rattle.asm_front.specs.Ending.{Flags}
 use Rattle.asm_front.specs.Knowing.{value_told, definition_told, meant_among, is_defined_in}
 use Rattle.asm_front.specs.Assembly.{Assembly, main_file, nothing_yet, placed_after, told_of, assembly_by}
-use Rattle.asm_functions.specs.Followed.{place_followed}
+use Rattle.asm_functions.specs.FollowedSource.{place_followed}
 use Rattle.asm_lines.specs.Statements.{StatementAt}
 use Rattle.asm_lines.specs.NextStatements.{in_tokens}
 use Rattle.asm_lines.specs.declared.faults.LineCause.{LineCause}

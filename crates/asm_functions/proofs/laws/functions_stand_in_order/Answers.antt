@@ -1,7 +1,7 @@
 -- There is no function at first, and each statement keeps them in order.
 use Rattle.std.proofs.lemmas.List.Elements.{All-nil}
 use Rattle.asm_values.specs.State.{nothing_placed}
-use Rattle.asm_functions.specs.Followed.{nothing_followed}
+use Rattle.asm_functions.specs.FollowedSource.{nothing_followed}
 use Rattle.asm_functions.specs.Standing.{StandsInOrder}
 use Rattle.asm_functions.proofs.StandingLemmas.{all_closed_stand}
 use Rattle.asm_functions.proofs.StandingLaws.{all_stand, all_within}

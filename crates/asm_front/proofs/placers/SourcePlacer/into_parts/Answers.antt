@@ -2,7 +2,7 @@
 use Rattle.std.proofs.Common.{◌≡◌, All, ap, ◌∙◌, sym, subst}
 use Rattle.code_functions.specs.Seen.{all_seen}
 use Rattle.asm_values.specs.State.{Placed}
-use Rattle.asm_functions.specs.Followed.{Followed}
+use Rattle.asm_functions.specs.FollowedSource.{FollowedSource}
 use Rattle.asm_front.specs.Synthesis.{IsReady}
 use Rattle.asm_front.specs.declared.placers.SourcePlacer.TheInside.{Inside}
 use Rattle.asm_front.proofs.OrderedStates.{ordered_ready}
@@ -10,7 +10,7 @@ use Rattle.asm_front.proofs.placers.SourcePlacer.into_parts.Goals as goal
 
 pub returns-clause-ready : goal.returns-clause-ready
 returns-clause-ready c =
-    let f : Followed = c.self.inside.following in
+    let f : FollowedSource = c.self.inside.following in
     let seen : all_seen c.functions.inside.functions ≡ f.functions =
     subst (λ (inside : Inside). all_seen c.functions.inside.functions ≡ inside.following.functions) c.self-inside.view_is c.functions.view_is in
     let same : c.into_parts-sections.result.sections ≡ f.placed.sections =
