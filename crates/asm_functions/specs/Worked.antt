@@ -11,10 +11,11 @@ use Rattle.code_functions.specs.Seen.{SeenItem, data_item, padding_item, target_
 use Rattle.asm_functions.specs.Following.{is_function, data_since, align_item}
 use Rattle.asm_functions.specs.FollowedSource.{first_ignored, with_remark}
 
--- a line, and a place behind so many plain bytes
+-- a line of the source
 abbrev pub on_line : ℕ → Pos
 on_line line = record { file = 0; line = line }
 
+-- a place after so many plain bytes
 abbrev pub at_byte : ℕ → Place
 at_byte offset = record { item = 0; offset = offset }
 
@@ -22,10 +23,11 @@ at_byte offset = record { item = 0; offset = offset }
 abbrev pub f_open : List SeenItem → List (Recorded SeenItem)
 f_open items = record { symbol = 5; pos = on_line 2; section = 0; start = at_byte 0; stop = None; items = items } ∷ []
 
--- the note of a value that was cut in this line, and the remark on an ignored directive
+-- the note of a value that was cut in this line
 abbrev pub cut_in : ℕ → Noted
 cut_in line = record { note = ValueTruncated; pos = on_line line }
 
+-- the remark on a directive that was ignored in this line
 abbrev pub remark_in : ℕ → Noted
 remark_in line = record { note = CfiIgnored; pos = on_line line }
 

@@ -4,10 +4,11 @@ use Rattle.asm_base.specs.declared.places.Place.{Place}
 use Rattle.asm_base.specs.declared.positions.Pos.{Pos}
 use Rattle.code_functions.specs.Recorded.{Recorded, begun, added, is_split, all_closed, closed_of}
 
--- a line, and a place behind so many plain bytes
+-- a line of the source
 abbrev pub on_line : ℕ → Pos
 on_line line = record { file = 0; line = line }
 
+-- a place after so many plain bytes
 abbrev pub at : ℕ → Place
 at offset = record { item = 0; offset = offset }
 
