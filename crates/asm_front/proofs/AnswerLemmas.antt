@@ -1,27 +1,21 @@
 -- From what was read and what came of it to the answer of a call of `assemble`.
-use Rattle.std.proofs.Common.{◌≡◌, ℕ, ◌+◌, ◌*◌, ◌<◌, ◌≤◌, ◌⊎◌, inl, inr, Bool, true, false, cond, nat_lt, List, [], ◌∷◌, ◌++◌, drop, length, Option, None, Some, Result, Ok, Err, refl, sym, ap, ◌∙◌, subst, arith}
-use Rattle.std.proofs.lemmas.Bool.Decides.{nat_tests}
-use Rattle.asm_base.specs.Counts.{HasRisen}
+use Rattle.std.proofs.Common.{◌≡◌, ℕ, ◌≤◌, inl, inr, List, [], ◌∷◌, Option, None, Some, Result, Ok, Err, sym, ap, subst, arith}
 use Rattle.asm_base.specs.Inputs.{Contents}
-use Rattle.asm_base.specs.WholeFile.{most_bytes, ReadsFile, ReadsName}
-use Rattle.asm_base.specs.declared.reading.TextFault.TheVariants.{TooLarge}
 use Rattle.asm_lines.specs.Statements.{StatementAt, statements_of}
 use Rattle.asm_lines.specs.declared.faults.LineCause.{LineCause}
 use Rattle.macro_words.specs.Statements.{line_cause}
 use Rattle.macro_words.specs.Files.{line_of_cause}
-use Rattle.asm_macro.specs.Placing.{Step, ended, fails, refused, misses, untold, expansion}
-use Rattle.asm_macro.specs.Expanding.{Comes, IsExpansion, HasExpansionCause, CountsMisses, KeepsMissing}
+use Rattle.asm_macro.specs.Placing.{Step, ended, fails, refused, untold, expansion}
+use Rattle.asm_macro.specs.Expanding.{Comes, IsExpansion, CountsMisses}
 use Rattle.asm_macro.specs.declared.faults.ExpandFault.{ExpandFault}
 use Rattle.asm_macro.specs.declared.faults.ExpandFault.TheVariants as expand
-use Rattle.asm_place.specs.Sources.{pos_at, fault_at}
+use Rattle.asm_place.specs.Sources.{pos_at}
 use Rattle.asm_place.specs.declared.place_faults.FaultAt.{FaultAt}
 use Rattle.asm_functions.specs.FollowedSource.{FollowedSource}
 use Rattle.asm_front.specs.Ending.{Flags}
-use Rattle.asm_front.specs.declared.ending.NotedObject.{NotedObject}
-use Rattle.asm_front.specs.Assembly.{Assembly, assembled, faulty, missing, shown_files, main_file, too_large, placed_after, told_of, nothing_yet, ended_by, assembly_by, expansion_of, assembly_of}
-use Rattle.asm_front.specs.Answering.{IsAnswered, IsAnswer, came_of, AssemblesText, CountsText}
-use Rattle.asm_front.specs.Outcome as outcome
-use Rattle.asm_front.specs.Outcome.{AssemblesAs, AssemblesFile, Assembles, CountsMissed, CountsMissingFiles, HasAssemblyCause, KeepsCount}
+use Rattle.asm_front.specs.Assembly.{Assembly, missing, main_file, placed_after, told_of, nothing_yet, assembly_by, expansion_of}
+use Rattle.asm_front.specs.Answering.{IsAnswered, IsAnswer, AssemblesText, CountsText}
+use Rattle.asm_front.specs.Outcome.{AssemblesAs, CountsMissed}
 use Rattle.asm_front.specs.declared.answers.Assembled.{Assembled}
 use Rattle.asm_front.specs.declared.answers.AsmFault.{AsmFault}
 use Rattle.asm_front.specs.declared.answers.AsmFault.TheVariants.{Source, Read, NoMemory}

@@ -1,8 +1,7 @@
 -- From the numbers of what came of a text to those of the object that is answered.
-use Rattle.std.proofs.Common.{◌≡◌, ℕ, ◌≤◌, ◌⊎◌, inl, inr, Bool, true, false, cond, nat_lt, List, [], ◌∷◌, length, Option, None, Some, Result, Ok, Err, sym, ap, ◌∙◌, subst, arith}
-use Rattle.std.proofs.lemmas.Bool.Decides.{nat_tests}
+use Rattle.std.proofs.Common.{◌≡◌, ℕ, inl, inr, List, [], ◌∷◌, Option, None, Some, Result, Ok, Err, sym, subst}
 use Rattle.asm_base.specs.Inputs.{Contents}
-use Rattle.asm_base.specs.WholeFile.{most_bytes, ReadsFile, ReadsName}
+use Rattle.asm_base.specs.WholeFile.{ReadsFile, ReadsName}
 use Rattle.asm_lines.specs.Statements.{StatementAt, statements_of}
 use Rattle.asm_lines.specs.declared.faults.LineCause.{LineCause}
 use Rattle.asm_macro.specs.Placing.{Step, ended, untold, expansion}

@@ -1,13 +1,13 @@
 -- Answers with what synthesis comes to: from what came of a text to the answer for the file.
-use Rattle.std.proofs.Common.{◌≡◌, ℕ, ◌≤◌, inl, inr, Bool, true, false, cond, List, [], ◌∷◌, length, Option, None, Some, Result, Ok, Err, refl, sym, ap, ◌∙◌, subst, string_bytes, arith}
+use Rattle.std.proofs.Common.{◌≡◌, ℕ, inl, inr, Bool, true, false, cond, List, [], ◌∷◌, Option, None, Some, Result, Ok, Err, refl, sym, ap, ◌∙◌, subst, string_bytes, arith}
 use Rattle.std.specs.Prelude.{is_some}
 use Rattle.asm_base.specs.Inputs.{Contents}
-use Rattle.asm_base.specs.WholeFile.{most_bytes, ReadsFile, ReadsName}
+use Rattle.asm_base.specs.WholeFile.{ReadsFile, ReadsName}
 use Rattle.asm_base.specs.declared.reading.TextFault.TheVariants.{TooLarge}
 use Rattle.asm_lines.specs.Statements.{StatementAt, statements_of}
 use Rattle.asm_lines.specs.declared.faults.LineCause.{LineCause}
 use Rattle.asm_macro.specs.Placing.{Step, ended, fails, refused, untold, expansion}
-use Rattle.asm_macro.specs.Expanding.{Comes, IsExpansion, CountsMisses}
+use Rattle.asm_macro.specs.Expanding.{Comes, IsExpansion}
 use Rattle.asm_macro.specs.declared.faults.ExpandFault.{ExpandFault}
 use Rattle.asm_macro.specs.declared.faults.ExpandFault.TheVariants as expand
 use Rattle.asm_place.specs.declared.place_faults.FaultAt.{FaultAt}
@@ -15,15 +15,14 @@ use Rattle.asm_functions.specs.FollowedSource.{FollowedSource, nothing_followed}
 use Rattle.asm_front.specs.Synthesis.{Synthesis}
 use Rattle.asm_front.specs.Ending.{Flags}
 use Rattle.asm_front.specs.Assembly.{faulty, shown_files, main_file, too_large, nothing_yet, placed_after, told_of, expansion_of, StepIsMade, FileIsMade, IsMade}
-use Rattle.asm_front.specs.Answering.{IsAnswered, IsAnswer, IsFitAnswer, AnswersSource, TextIsMade, IsFitText, AnswersText, IsAssembled, AnswersFile, AssemblesText, CountsText, came_of}
-use Rattle.asm_front.specs.Fitting.{TextFits}
+use Rattle.asm_front.specs.Answering.{IsAnswered, IsAnswer, IsFitAnswer, AnswersSource, TextIsMade, IsFitText, AnswersText, IsAssembled, AnswersFile, CountsText, came_of}
 use Rattle.asm_front.specs.Outcome.{flags_of, WithSynthesis}
 use Rattle.asm_front.specs.declared.answers.Options.{Options}
 use Rattle.asm_front.specs.declared.answers.Assembled.{Assembled}
 use Rattle.asm_front.specs.declared.answers.AsmFault.{AsmFault}
 use Rattle.asm_front.specs.declared.answers.AsmFault.TheVariants.{Source, Read, NoMemory}
 use Rattle.asm_front.proofs.AnswerLemmas.{lines_fault, text_answered}
-use Rattle.asm_front.proofs.AnswersFit.{Law as FitLaw, text_fits, text_is_readable, nothing_readable, fault_readable}
+use Rattle.asm_front.proofs.AnswersFit.{Law as FitLaw, text_fits, text_is_readable, nothing_readable}
 use Rattle.asm_front.proofs.AnswersReadBack.{Law as BackLaw, answer_reads_back, no_object}
 use Rattle.asm_front.proofs.WholeSources.{text_read, text_too_large, read_failed, memory_wanted}
 

@@ -1,5 +1,5 @@
 -- No step but the reading of the file calls a file too large.
-use Rattle.std.proofs.Common.{◌≡◌, ℕ, Bool, false, List, [], ◌∷◌, Option, None, Some, Result, Ok, Err, refl, ap}
+use Rattle.std.proofs.Common.{◌≡◌, ℕ, Bool, false, List, Option, None, Some, Result, Ok, Err, refl}
 use Rattle.std.specs.Result.{IfErr}
 use Rattle.std.proofs.lemmas.Result.{IfErr-at_err}
 use Rattle.asm_base.specs.declared.notes.Noted.{Noted}
@@ -12,9 +12,7 @@ use Rattle.asm_base.specs.declared.causes.FragCause.{FragCause}
 use Rattle.asm_base.specs.declared.causes.FragCause.TheVariants.{BadSection}
 use Rattle.asm_uses.specs.Tables.{Table, with_map}
 use Rattle.asm_frags.specs.Writing.{LooseSection}
-use Rattle.asm_base.specs.Refusals.{◌>>=◌}
-use Rattle.asm_lines.specs.NextStatements.{TokenStatement}
-use Rattle.asm_functions.specs.FollowedSource.{FollowedSource, place_followed, follow_all, notes_of}
+use Rattle.asm_functions.specs.FollowedSource.{FollowedSource, notes_of}
 use Rattle.asm_place.specs.declared.place_faults.FaultAt.{FaultAt}
 use Rattle.asm_front.specs.Synthesis.{Synthesis}
 use Rattle.asm_front.specs.Ending.{Flags, noted, laid_end, unclosed, first_line, with_frames, framed_end, unless_open, finished, procedures_by, unless_fault, followed_end}

@@ -1,13 +1,11 @@
 -- The numbers of the object of a source fit their fields, and a reader finds its sections.
-use Rattle.std.proofs.Common.{◌≡◌, ℕ, ◌+◌, ◌*◌, ◌^◌, ◌≤◌, ◌<◌, ◌&&◌, ◌⊎◌, inl, inr, nat_le, Bool, true, All, List, [], ◌∷◌, ◌++◌, codes, drop, length, map, Option, None, Some, Result, Ok, Err, refl, sym, ap, ◌∙◌, subst, arith, length-append}
+use Rattle.std.proofs.Common.{◌≡◌, ℕ, ◌+◌, ◌^◌, ◌≤◌, ◌&&◌, ◌⊎◌, inl, inr, nat_le, Bool, true, All, List, [], ◌∷◌, ◌++◌, codes, drop, length, map, Result, Ok, refl, sym, ap, ◌∙◌, subst, arith, length-append}
 use Rattle.std.proofs.lemmas.Bool.Decides.{nat_tests}
 use Rattle.std.proofs.lemmas.List.{length-map}
 use Rattle.std.proofs.lemmas.List.Elements.{All-nil, All-cons, All-head, All-tail, All-map, All-push}
-use Rattle.asm_base.specs.Inputs.{Contents}
-use Rattle.asm_base.specs.declared.causes.FragCause.{FragCause}
 use Rattle.asm_expr.specs.Forms.{Form}
 use Rattle.asm_lines.specs.NextStatements.{TokenStatement}
-use Rattle.asm_symbols.specs.Interning.{names_size, is_within_limits}
+use Rattle.asm_symbols.specs.Interning.{names_size}
 use Rattle.asm_symbols.specs.SymbolMap.{SymbolMap}
 use Rattle.asm_frags.specs.SectionOf.{SectionOf}
 use Rattle.asm_frags.specs.Substituting.{laid_section, laid_sections}
@@ -22,21 +20,17 @@ use Rattle.eh_frame.specs.Additions.{section_names, AddsLittle, TablesAddLittle}
 use Rattle.eh_frame.specs.Pieces.{Tables, tables_of}
 use Rattle.eh_frame.specs.Placing.{placed}
 use Rattle.elf_object.specs.Limits.{NumbersFit}
-use Rattle.frame_laws.specs.TableReads.{TableReads}
-use Rattle.object_laws.specs.ObjectLimits.{ObjectFits}
 use Rattle.object_laws.specs.SectionPlaces.{SourceSectionsFound}
 use Rattle.object_laws.specs.SmallSources.{IsSmallSource, ObjectsFit}
-use Rattle.asm_place.specs.SourceSizes.{HasShortName, IsSmall}
+use Rattle.asm_place.specs.SourceSizes.{IsSmall}
 use Rattle.asm_place.specs.Sources.{place_all}
 use Rattle.asm_place.specs.declared.place_faults.FaultAt.{FaultAt}
 use Rattle.asm_values.specs.State.{Placed, nothing_placed}
 use Rattle.asm_macro.specs.Placing.{Step, ended}
-use Rattle.asm_front.specs.Assembly.{assembled, assembly_of, expansion_of, handed_of}
 use Rattle.asm_functions.specs.FollowedSource.{FollowedSource}
 use Rattle.asm_front.specs.Ending.{Flags, framed, with_made}
 use Rattle.asm_front.specs.Fitting.{LayoutFits, TablesFit, StepFits, IsReadable, ObjectIsReadable}
-use Rattle.asm_front.specs.ReadsBack.{FramesReadBack, Origin, ReadsBack}
-use Rattle.asm_front.specs.declared.ending.NotedObject.{NotedObject}
+use Rattle.asm_front.specs.ReadsBack.{FramesReadBack, ReadsBack}
 
 -- what lower layers say of small sources and their objects
 pub record SmallFacts : Type 0 where

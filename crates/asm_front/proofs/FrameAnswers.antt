@@ -1,5 +1,5 @@
 -- Answers of the calls that work out frame tables.
-use Rattle.std.proofs.Common.{◌≡◌, ℕ, zero, suc, ◌+◌, ◌<◌, ◌≤◌, List, [], ◌∷◌, ◌++◌, take, drop, length, map, All, Option, None, Some, Result, Ok, Err, refl, sym, ap, ◌∙◌, subst, arith, append_assoc, take-append-drop}
+use Rattle.std.proofs.Common.{◌≡◌, ℕ, zero, suc, ◌+◌, ◌<◌, ◌≤◌, List, [], ◌∷◌, ◌++◌, take, drop, length, All, Option, None, Some, Ok, Err, refl, sym, ap, ◌∙◌, subst, arith, append_assoc, take-append-drop}
 use Rattle.std.specs.List.{AllZip}
 use Rattle.std.specs.Prelude.{slice_get, slice_index_or, IfSome, is_none, cond}
 use Rattle.asm_base.specs.declared.faults.ScfiFault.{ScfiFault}
@@ -7,7 +7,6 @@ use Rattle.std.specs.Option.{option_map, option_map_or}
 use Rattle.std.proofs.lemmas.List.{drop_more, take_more, take_all}
 use Rattle.std.proofs.lemmas.List.Elements.{All-map, All-weaker}
 use Rattle.std.proofs.lemmas.Option.{slice_get_within, get_or_from_slice_get}
-use Rattle.asm_base.specs.declared.positions.Pos.{Pos}
 use Rattle.asm_base.specs.declared.places.Place.{Place}
 use Rattle.asm_base.specs.declared.refusals.Refusal.{Refusal}
 use Rattle.asm_base.specs.declared.refusals.Refusal.TheVariants as refusal
@@ -25,7 +24,7 @@ use Rattle.flow_graph.specs.Nodes.{nodes_of}
 use Rattle.scfi_pass.specs.declared.item_ops.ItemOp.{ItemOp}
 use Rattle.scfi_pass.specs.declared.walked.ItemFault.{ItemFault}
 use Rattle.scfi_pass.specs.Synthesis.{IsTableOf, IsFaultOf}
-use Rattle.asm_front.specs.Synthesis.{IsTable, IsRefused, IsFrameOf, IsFirstRefused, IsReady, AnswersTable, AnswersFrame, AnswersFrames, place_of, placed_op, placed_ops, frame_with, fields_of, nodes_in, refused}
+use Rattle.asm_front.specs.Synthesis.{IsTable, IsRefused, IsFrameOf, IsReady, AnswersTable, AnswersFrame, AnswersFrames, place_of, placed_op, placed_ops, fields_of, nodes_in, refused}
 use Rattle.asm_front.specs.declared.synthesizing.ItemFaultAt.{ItemFaultAt}
 
 -- ONE FUNCTION

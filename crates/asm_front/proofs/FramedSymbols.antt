@@ -17,7 +17,7 @@ use Rattle.eh_frame.specs.Placing.{placed}
 use Rattle.eh_frame.specs.StandingPlaces.{HoldsItems, FrameStands, LabelStands, GetsStanding}
 use Rattle.asm_values.specs.State.{Placed}
 use Rattle.asm_place.specs.Instructions.{with_more, Grows, AreWithin}
-use Rattle.asm_place.specs.SymbolPlaces.{HasItems, MeaningStands, SymbolStands, SymbolsStand, ProcedureStands, PlacesStand}
+use Rattle.asm_place.specs.SymbolPlaces.{HasItems, MeaningStands, SymbolStands, SymbolsStand, ProcedureStands}
 use Rattle.frame_laws.specs.PlacedTables.{IsCovered}
 use Rattle.asm_front.specs.Synthesis.{Synthesis}
 use Rattle.asm_front.specs.Ending.{framed, procedures_by}

@@ -12,12 +12,12 @@ use Rattle.asm_macro.specs.Expansion.{started}
 use Rattle.asm_macro.specs.Laws.{PlacesHanded}
 use Rattle.asm_macro.specs.Placing.{Step, goes, ended, fails, refused, misses, untold, expansion, handed, most_turns, steps}
 use Rattle.asm_base.specs.Refusals.{◌>>=◌}
-use Rattle.asm_functions.specs.FollowedSource.{FollowedSource, nothing_followed, place_followed, follow_all, placed_part, notes_of}
+use Rattle.asm_functions.specs.FollowedSource.{FollowedSource, place_followed, follow_all, placed_part, notes_of}
 use Rattle.asm_place.specs.Sources.{place_all}
 use Rattle.asm_place.specs.declared.place_faults.FaultAt.{FaultAt}
-use Rattle.asm_values.specs.State.{Placed, nothing_placed}
+use Rattle.asm_values.specs.State.{nothing_placed}
 use Rattle.asm_base.specs.declared.notes.Noted.{Noted}
-use Rattle.asm_front.specs.Assembly.{Assembly, assembled, faulty, is_asked, nothing_yet, placed_after, told_of, ended_by, assembly_by, expansion_of, assembly_of, handed_by, handed_of, shown_files, main_file, too_large, StepIsMade, SourceIsMade}
+use Rattle.asm_front.specs.Assembly.{Assembly, assembled, faulty, nothing_yet, placed_after, told_of, ended_by, assembly_by, expansion_of, assembly_of, handed_by, handed_of, shown_files, main_file, too_large, StepIsMade, SourceIsMade}
 use Rattle.asm_front.specs.Synthesis.{Synthesis, IsMadeAt}
 use Rattle.asm_front.specs.Ending.{Flags, finished, procedures_by, unless_fault, followed_end}
 use Rattle.asm_front.specs.declared.ending.NotedObject.{NotedObject}

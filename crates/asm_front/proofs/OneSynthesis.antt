@@ -1,5 +1,5 @@
 -- What functions come to is one thing: of items that are seen alike synthesis makes the same.
-use Rattle.std.proofs.Common.{◌≡◌, ℕ, Bool, cond, List, [], ◌∷◌, ◌++◌, map, Option, None, Some, Result, Ok, Err, refl, sym, ap, ◌∙◌, subst}
+use Rattle.std.proofs.Common.{◌≡◌, ℕ, cond, List, [], ◌∷◌, ◌++◌, map, Option, None, Some, Ok, Err, refl, sym, ap, ◌∙◌, subst}
 use Rattle.std.specs.List.{AllZip}
 use Rattle.std.specs.Prelude.{slice_get, is_none}
 use Rattle.std.specs.Option.{option_map, option_map_or}
@@ -21,7 +21,7 @@ use Rattle.synthesis_laws.specs.OneAnswer.{IsFaultHere, TablesAreOne, FaultsAreO
 use Rattle.synthesis_laws.specs.Sights.{Sight, sight_of, LookAlike, TablesAreSeen, FaultsAreSeen, NodesAreSeen}
 use Rattle.asm_functions.specs.FollowedSource.{FollowedSource}
 use Rattle.asm_functions.specs.Following.{end_of}
-use Rattle.asm_front.specs.Synthesis.{Synthesis, IsTable, IsRefused, IsFrameOf, AreFrames, IsFirstRefused, ComeTo, IsSynthesis, place_of, placed_op, placed_ops, frame_with, fields_of, nodes_in}
+use Rattle.asm_front.specs.Synthesis.{Synthesis, IsRefused, IsFrameOf, AreFrames, ComeTo, IsSynthesis, place_of, placed_op, placed_ops, frame_with, fields_of, nodes_in}
 use Rattle.asm_front.specs.declared.synthesizing.ItemFaultAt.{ItemFaultAt}
 
 -- what is known of synthesis

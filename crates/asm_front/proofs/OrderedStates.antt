@@ -2,7 +2,6 @@
 use Rattle.std.proofs.Common.{◌≡◌, inl, inr, Bool, true, false, cond, List, [], ◌∷◌, ◌++◌, All, Result, Ok, Err, refl, sym, ap, ◌∙◌, subst}
 use Rattle.std.proofs.lemmas.List.Elements.{All-nil}
 use Rattle.asm_base.specs.Refusals.{◌>>=◌}
-use Rattle.asm_frags.specs.Writing.{LooseSection}
 use Rattle.asm_lines.specs.NextStatements.{TokenStatement}
 use Rattle.asm_place.specs.Sources.{place}
 use Rattle.asm_place.specs.declared.place_faults.FaultAt.{FaultAt}
@@ -10,9 +9,9 @@ use Rattle.asm_values.specs.State.{Placed}
 use Rattle.asm_functions.specs.FollowedSource.{FollowedSource, nothing_followed, with_placed, place_followed, follow_all}
 use Rattle.asm_functions.specs.Standing.{StandsInOrder}
 use Rattle.code_functions.specs.Recorded.{Recorded}
-use Rattle.code_functions.specs.Seen.{SeenItem, all_seen}
+use Rattle.code_functions.specs.Seen.{all_seen}
 use Rattle.code_functions.specs.declared.items.CodeItem.{CodeItem}
-use Rattle.asm_front.specs.Synthesis.{IsComeTo, IsOrdered, IsReady}
+use Rattle.asm_front.specs.Synthesis.{IsOrdered, IsReady}
 use Rattle.asm_front.proofs.PlacesInOrder.{all_ready}
 
 -- nothing is placed yet

@@ -1,6 +1,6 @@
 -- Places that stand in order inside a section, and the items of functions there.
-use Rattle.std.proofs.Common.{◌≡◌, ℕ, zero, suc, ◌<◌, ◌≤◌, ◌==◌, ◌&&◌, ◌||◌, nat_lt, nat_le, Bool, true, false, List, [], ◌∷◌, length, map, drop, take, All, Some, refl, sym, ap, subst, arith}
-use Rattle.std.specs.Prelude.{slice_get, slice_index_or}
+use Rattle.std.proofs.Common.{◌≡◌, ℕ, zero, suc, ◌<◌, ◌≤◌, ◌==◌, ◌&&◌, ◌||◌, nat_lt, nat_le, Bool, true, false, List, [], ◌∷◌, length, map, drop, take, All, refl, ap, subst, arith}
+use Rattle.std.specs.Prelude.{slice_index_or}
 use Rattle.std.proofs.lemmas.Bool.Decides.{nat_tests}
 use Rattle.std.proofs.lemmas.List.Elements.{All-nil, All-cons, All-head, All-tail}
 use Rattle.std.proofs.lemmas.Option.{slice_get_within}
@@ -8,7 +8,7 @@ use Rattle.asm_base.specs.declared.places.Place.{Place}
 use Rattle.asm_frags.specs.Writing.{LooseItem, LooseSection}
 use Rattle.asm_place.specs.ProcedurePlaces.{IsInside}
 use Rattle.cfi_directives.specs.Order.{IsUpTo, NeverFall}
-use Rattle.code_functions.specs.InOrder.{is_up_to, AreInOrder}
+use Rattle.code_functions.specs.InOrder.{is_up_to}
 use Rattle.code_functions.specs.Recorded.{Recorded}
 use Rattle.code_functions.specs.Seen.{SeenItem, seen, mapped, all_seen}
 use Rattle.code_functions.specs.declared.items.CodeItem.{CodeItem}

@@ -1,5 +1,5 @@
 -- The files that a source starts: on every answer the first of them were read.
-use Rattle.std.proofs.Common.{◌≡◌, ℕ, suc, ◌+◌, ◌*◌, ◌≤◌, Bool, List, [], ◌∷◌, ◌++◌, drop, take, length, Option, None, Some, Result, Ok, Err, refl, sym, ap, ◌∙◌, subst, append_assoc, append-nil, arith}
+use Rattle.std.proofs.Common.{◌≡◌, ℕ, suc, ◌+◌, ◌≤◌, List, [], ◌∷◌, ◌++◌, drop, take, Option, None, Some, Result, Ok, Err, refl, sym, ap, ◌∙◌, subst, append_assoc, append-nil, arith}
 use Rattle.asm_base.specs.History.{FileEvent, HappensInFront, happened, whole_file, whole_files}
 use Rattle.asm_base.specs.Inputs.{Contents}
 use Rattle.asm_base.specs.WholeFile.{most_bytes, ReadsFile, ReadsName, TakesBytes}
@@ -12,7 +12,7 @@ use Rattle.asm_macro.specs.Starts.{AreFirst, IsFront, ReadsFront, files_of}
 use Rattle.asm_place.specs.declared.place_faults.FaultAt.{FaultAt}
 use Rattle.asm_functions.specs.FollowedSource.{FollowedSource}
 use Rattle.asm_front.specs.Answering.{StartsIncluded, StartsTexts}
-use Rattle.asm_front.specs.Assembly.{Assembly, included_by, shown_files, main_file, placed_after, told_of, nothing_yet, ended_by, assembly_by, expansion_of, assembly_of}
+use Rattle.asm_front.specs.Assembly.{included_by, shown_files, main_file, placed_after, told_of, nothing_yet, ended_by, assembly_by, expansion_of, assembly_of}
 use Rattle.asm_front.specs.Ending.{Flags, followed_end}
 use Rattle.asm_front.specs.Outcome.{StartsFiles, StartsFirst, StartsThese}
 use Rattle.asm_front.specs.declared.ending.NotedObject.{NotedObject}

@@ -1,5 +1,5 @@
 -- The end of a source by what synthesis comes to, and the answers for it.
-use Rattle.std.proofs.Common.{◌≡◌, ℕ, Bool, true, false, cond, List, [], ◌∷◌, ◌++◌, Option, None, Some, Result, Ok, Err, refl, sym, ap, ◌∙◌, subst, append-nil, string_bytes}
+use Rattle.std.proofs.Common.{◌≡◌, ℕ, Bool, true, false, cond, List, [], Option, None, Some, Result, Ok, Err, refl, sym, ap, ◌∙◌, subst, append-nil, string_bytes}
 use Rattle.std.specs.Prelude.{OnOk}
 use Rattle.asm_base.specs.Refusals.{Returns}
 use Rattle.asm_base.specs.declared.faults.Fault.TheVariants.{Scfi}
@@ -16,9 +16,8 @@ use Rattle.macro_words.specs.declared.causes.MacroCause.{MacroCause}
 use Rattle.asm_place.specs.Sources.{fault_at}
 use Rattle.asm_place.specs.declared.place_faults.FaultAt.{FaultAt}
 use Rattle.asm_uses.specs.Tables.{Table}
-use Rattle.asm_values.specs.State.{Placed}
 use Rattle.cfi_directives.specs.declared.frames.Frame.{Frame}
-use Rattle.cfi_directives.specs.Procedures.{Procedures, no_procedures, frames_of}
+use Rattle.cfi_directives.specs.Procedures.{Procedures, no_procedures}
 use Rattle.code_functions.specs.declared.items.CodeItem.{CodeItem}
 use Rattle.code_functions.specs.Recorded.{Recorded, all_closed}
 use Rattle.code_functions.specs.Seen.{all_seen}
@@ -28,11 +27,11 @@ use Rattle.asm_functions.specs.FollowedSource.{FollowedSource, notes_of}
 use Rattle.asm_functions.specs.Following.{end_of}
 use Rattle.asm_front.specs.Synthesis.{Synthesis, AreFrames, IsFirstRefused, ComeTo, IsSynthesis, IsMadeAt}
 use Rattle.asm_front.specs.declared.synthesizing.ItemFaultAt.{ItemFaultAt}
-use Rattle.asm_front.specs.Ending.{Flags, with_frames, framed, framed_end, first_line, finished, procedures_by, with_made, unless_fault, followed_end}
-use Rattle.asm_front.specs.Assembly.{Assembly, assembled, faulty, macro_fault, shown_files, ended_by, StepIsMade}
-use Rattle.asm_front.specs.Answering.{IsAnswered, IsAnswer, IsFitAnswer, AnswersSource, came_of, line_answer}
+use Rattle.asm_front.specs.Ending.{with_frames, framed, framed_end, first_line, finished, procedures_by, with_made, unless_fault}
+use Rattle.asm_front.specs.Assembly.{assembled, faulty, macro_fault, shown_files, ended_by, StepIsMade}
+use Rattle.asm_front.specs.Answering.{IsAnswered, IsFitAnswer, AnswersSource, came_of, line_answer}
 use Rattle.asm_front.specs.Fitting.{TablesFit, EndsWithFrames, AnswersWithFrames, EndsFollowed, AnswersFollowed}
-use Rattle.asm_front.specs.Outcome.{flags_of, WithSynthesis}
+use Rattle.asm_front.specs.Outcome.{flags_of}
 use Rattle.asm_front.specs.declared.answers.Options.{Options}
 use Rattle.asm_front.specs.declared.answers.Assembled.{Assembled}
 use Rattle.asm_front.specs.declared.answers.AsmFault.{AsmFault}

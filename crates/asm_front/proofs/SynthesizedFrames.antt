@@ -18,7 +18,7 @@ use Rattle.cfi_rows.specs.Differences.{differences}
 use Rattle.code_functions.specs.Recorded.{Recorded, closed_by, all_closed}
 use Rattle.code_functions.specs.Seen.{SeenItem, seen, mapped, all_seen}
 use Rattle.code_functions.specs.declared.items.CodeItem.{CodeItem}
-use Rattle.eh_frame.specs.StandingPlaces.{HoldsItems, FrameStands}
+use Rattle.eh_frame.specs.StandingPlaces.{HoldsItems}
 use Rattle.flow_graph.specs.declared.nodes.Node.{Node}
 use Rattle.frame_laws.specs.PlacedTables.{IsCovered}
 use Rattle.scfi_pass.specs.declared.item_ops.ItemOp.{ItemOp}

@@ -1,5 +1,5 @@
 -- Where contents are told, no file that a list starts is untold.
-use Rattle.std.proofs.Common.{◌≡◌, ℕ, zero, suc, ◌+◌, nat_le, Bool, true, false, cond, List, [], ◌∷◌, ◌++◌, length, map, count_by, Option, None, Some, Result, Ok, Err, refl, ap, ◌∙◌, sym}
+use Rattle.std.proofs.Common.{◌≡◌, ℕ, zero, suc, ◌+◌, nat_le, Bool, true, false, cond, List, [], ◌∷◌, length, map, count_by, Option, None, Some, Result, Ok, Err, refl, ap, ◌∙◌, sym}
 use Rattle.std.specs.List.{list_any}
 use Rattle.std.proofs.lemmas.Bool.{false≢true}
 use Rattle.asm_base.specs.Inputs.{Contents}
@@ -21,9 +21,9 @@ use Rattle.macro_words.specs.declared.words.Word.TheVariants as word
 use Rattle.macro_words.specs.Branches.{verdict}
 use Rattle.macro_words.specs.Conditions.{Knowledge, repeat_count, holds}
 use Rattle.macro_words.specs.Files.{FileFault, file_name, file_statements}
-use Rattle.macro_words.specs.Statements.{pos_of, labels_of, behind_labels, named_by, word_in, operands_in, one_name, body_text, made_statements}
+use Rattle.macro_words.specs.Statements.{pos_of, labels_of, behind_labels, named_by, word_in, operands_in, one_name, made_statements}
 use Rattle.macro_blocks.specs.Blocks.{Cut, cut_block, cut_branch}
-use Rattle.macro_blocks.specs.Levels.{Level, with_statements, level_with, copies_of, each_copy}
+use Rattle.macro_blocks.specs.Levels.{Level, with_statements, level_with}
 use Rattle.macro_blocks.specs.declared.blocks.Block.TheVariants as block
 use Rattle.macro_blocks.specs.declared.blocks.Ending.{Ending}
 use Rattle.macro_blocks.specs.declared.blocks.Ending.TheVariants as ending

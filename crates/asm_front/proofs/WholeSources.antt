@@ -1,16 +1,16 @@
 -- From the reading of the source and the answer for its text to the answer of `assemble`.
-use Rattle.std.proofs.Common.{◌≡◌, ℕ, ◌+◌, ◌*◌, ◌<◌, ◌≤◌, ◌⊎◌, inl, inr, min, true, false, cond, nat_lt, List, [], ◌∷◌, ◌++◌, drop, length, Option, None, Some, Result, Ok, Err, refl, sym, ap, ◌∙◌, subst, append_assoc, arith}
+use Rattle.std.proofs.Common.{◌≡◌, ℕ, ◌+◌, ◌<◌, ◌≤◌, inl, min, true, false, cond, nat_lt, List, [], ◌++◌, drop, length, Option, None, Some, Result, Ok, Err, refl, sym, ap, ◌∙◌, subst, append_assoc, arith}
 use Rattle.std.proofs.lemmas.Bool.Decides.{nat_tests}
-use Rattle.asm_base.specs.Counts.{HasRisen, last_count}
+use Rattle.asm_base.specs.Counts.{last_count}
 use Rattle.asm_base.specs.History.{FileEvent, happened, whole_file, whole_files}
 use Rattle.asm_base.specs.Inputs.{Contents, CountsFile, CountsMissing}
 use Rattle.asm_base.specs.WholeFile.{most_bytes, ReadsFile, ReadsName}
 use Rattle.asm_base.specs.declared.reading.TextFault.TheVariants.{TooLarge}
 use Rattle.asm_place.specs.declared.place_faults.FaultAt.{FaultAt}
 use Rattle.asm_front.specs.Ending.{Flags}
-use Rattle.asm_front.specs.Assembly.{Assembly, assembled, faulty, missing, shown_files, main_file, too_large, assembly_by, expansion_of, assembly_of}
+use Rattle.asm_front.specs.Assembly.{Assembly, faulty, shown_files, main_file, too_large, assembly_by, expansion_of, assembly_of}
 use Rattle.asm_front.specs.Answering.{IsAnswered, AssemblesText, CountsText, ReadsText, TakesText}
-use Rattle.asm_front.specs.Outcome.{AssemblesAs, AssemblesFile, Assembles, CountsMissed, CountsMissingFiles, CountsMisses, HasAssemblyCause, KeepsCount, NamesFiles, ReadsFiles, TakesFiles, TakesSource}
+use Rattle.asm_front.specs.Outcome.{AssemblesAs, AssemblesFile, Assembles, CountsMissed, CountsMissingFiles, CountsMisses, NamesFiles, ReadsFiles, TakesFiles, TakesSource}
 use Rattle.asm_front.specs.declared.answers.Assembled.{Assembled}
 use Rattle.asm_front.specs.declared.answers.AsmFault.{AsmFault}
 use Rattle.asm_front.specs.declared.answers.AsmFault.TheVariants.{Source, Read, NoMemory}

@@ -1,5 +1,5 @@
 -- The answer of a call of `assemble`, by what expansion answered.
-use Rattle.std.specs.Prelude.{◌≡◌, ◌≤◌, ◌+◌, ◌*◌, Bool, false, List, [], ◌∷◌, drop, length, ℕ, Option, None, Some, Result, Ok, Err, string_bytes}
+use Rattle.std.specs.Prelude.{◌≡◌, ◌≤◌, ◌+◌, ◌*◌, false, List, [], ◌∷◌, drop, length, ℕ, Option, None, Some, Result, Ok, Err, string_bytes}
 use Rattle.asm_base.specs.History.{FileEvent, happened, whole_files}
 use Rattle.asm_base.specs.Inputs.{Contents}
 use Rattle.asm_base.specs.WholeFile.{most_bytes}

@@ -1,5 +1,5 @@
 -- An expression of numbers alone has its value whatever is known.
-use Rattle.std.proofs.Common.{◌≡◌, ℕ, List, [], Ok, refl, map}
+use Rattle.std.proofs.Common.{◌≡◌, ℕ, List, Ok, refl, map}
 use Rattle.asm_base.specs.Tokens.{SpelledToken, spelled}
 use Rattle.asm_expr.specs.NamesOf.{names_of}
 use Rattle.asm_operands.specs.Constants.{IsConstant}

@@ -2,7 +2,6 @@
 use Rattle.std.proofs.Common.{◌<◌, All, length, sym, subst}
 use Rattle.scfi_pass.specs.declared.item_ops.ItemOp.{ItemOp}
 use Rattle.asm_front.proofs.OpsInItems.{table_within}
-use Rattle.asm_front.proofs.FrameAnswers.{fault_within, fault_answered}
 use Rattle.asm_front.proofs.synthesizing.table_of.Goals as goal
 
 pub placed_ops-requires : goal.placed_ops-requires
