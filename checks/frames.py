@@ -1,7 +1,7 @@
 #!/usr/bin/env python3
 """Frame tables of C programs: what they say at each place, beside those of GNU as, and what libgcc finds by them.
 
-    checks/frames.py --ours build/as [--gnu /usr/bin/as] [--count 100] [--seed 1] [--keep DIR]
+    checks/frames.py --ours build/as [--gnu /usr/bin/as] [--count 100] [--seed 1] [--sources DIR ..] [--keep DIR]
 
 gcc compiles the programs of `bench/c_programs.py` from the seed on, at -O0 and at -O2, in AT&T and in Intel syntax, with the tables for unwinding that it
 makes by itself. Both assemblers take what it writes as it is. Compared are the rows of all entries as `readelf --debug-dump=frames-interp` has them: from which
@@ -10,6 +10,7 @@ alignment a jump may be shorter), the rows are compared without their places. Th
 assembled, linked and run, and prints what it prints where GNU as assembled it: who called whom, as libgcc's unwinder finds it.
 Last the programs are compiled without jump tables, cold parts and sibling calls, and our assembler works the tables out without gcc's directives
 (`--scfi=experimental`). At each instruction the frame address and the slots of registers are those of gcc's table, where both tell them by the same registers.
+So are, with `--sources`, the C files of these folders at -O2, as those of zlib, bzip2 and Lua; one that gcc does not take is passed over.
 Prints a line for each difference, and where it is kept, and ends with 1 where there is one. A source in Intel syntax that uses `ds:`, or
 that GNU as refuses, is passed over.
 
@@ -139,6 +140,10 @@ class Worked:
         written, worked = frames_of("written.o", folder), frames_of("worked.o", folder)
         return next(filter(None, (self.rows_fault(key, rows, worked.get(key), places) for key, rows in written.items())), None)
 
+    def said(self) -> str:
+        """All of it, in one line."""
+        return f"{self.sources} sources without directives: {self.instructions} instructions, {self.others} of them with the frame address by another register, {self.refused} refused"
+
     def rows_fault(self, key: tuple[str, str, int], written: list[tuple[str, ...]], worked: list[tuple[str, ...]] | None, places: list[int]) -> str | None:
         """What is wrong with the rows of a procedure, at its instructions."""
         if worked is None:
@@ -160,19 +165,50 @@ class Worked:
         return None
 
 
+class Kept:
+    """Where sources are kept that differ, and how many they are."""
+
+    def __init__(self, folder: pathlib.Path | None) -> None:
+        self.folder, self.failed = folder, 0
+
+    def keep(self, name: str, folder: pathlib.Path, found: str) -> None:
+        """Keeps what is in the folder, and prints what was found."""
+        self.failed += 1
+        self.folder = self.folder or pathlib.Path(tempfile.mkdtemp(prefix="frames-"))
+        place = self.folder / name
+        shutil.copytree(folder, place, dirs_exist_ok=True)
+        print(f"{place}: {found}", flush=True)
+
+
+def compare_sources(ours: str, sources: list[pathlib.Path], kept: Kept) -> None:
+    """Tables of the C files of these folders that are worked out, beside gcc's own."""
+    worked = Worked()
+    for source in (file for folder in sources for file in sorted(folder.resolve().glob("*.c"))):
+        with tempfile.TemporaryDirectory() as name:
+            folder = pathlib.Path(name)
+            words = ["-O2", *PLAIN, f"-I{source.parent}", "-DLUA_USE_LINUX", "-D_FILE_OFFSET_BITS=64"]
+            if run([*COMPILE, *words, "-o", "x.s", str(source)], folder).status != 0:
+                continue
+            if found := worked.fault(ours, folder):
+                kept.keep(source.name, folder, found)
+    if sources:
+        print(f"the C files of {len(sources)} folders: {worked.said()}")
+
+
 def main() -> int:
     parser = argparse.ArgumentParser(description="Compares frame tables of C programs with those of GNU as.")
     parser.add_argument("--ours", type=program, required=True, help="our program, as build/as")
     parser.add_argument("--gnu", type=program, default="/usr/bin/as", help="GNU as (default /usr/bin/as)")
     parser.add_argument("--count", metavar="N", type=int, default=100, help="how many programs (default 100)")
     parser.add_argument("--seed", metavar="N", type=int, default=1, help="the number of the first program (default 1)")
+    parser.add_argument("--sources", metavar="DIR", type=pathlib.Path, nargs="*", default=[], help="folders of C files, compiled without directives too")
     parser.add_argument("--keep", metavar="DIR", type=pathlib.Path, help="where the sources are kept that differ; else a new folder")
     options = parser.parse_args()
     if not shutil.which("gcc") or not shutil.which("readelf"):
         print("no gcc or no readelf on PATH: nothing is compared")
         return 0
-    kept = options.keep
-    entries = failed = passed_over = 0
+    kept = Kept(options.keep)
+    entries = passed_over = 0
     worked = Worked()
     ways = [(number, way) for number in range(options.seed - 1, options.seed + options.count) for way in WAYS]
     ways += [(number, way) for number in range(options.seed, options.seed + options.count) for way in PLAIN_WAYS]
@@ -196,14 +232,11 @@ def main() -> int:
             if found == PASSED_OVER:
                 passed_over += 1
             elif found:
-                failed += 1
-                kept = kept or pathlib.Path(tempfile.mkdtemp(prefix="frames-"))
-                place = kept / f"{number}{''.join(way)}"
-                shutil.copytree(folder, place, dirs_exist_ok=True)
-                print(f"{place}: {found}", flush=True)
-    print(f"{options.count} programs and a backtrace, in {len(WAYS)} ways: {entries} procedures, {passed_over} sources passed over, {failed} faults")
-    print(f"{worked.sources} sources without directives: {worked.instructions} instructions, {worked.others} of them with the frame address by another register, {worked.refused} refused")
-    return 1 if failed else 0
+                kept.keep(f"{number}{''.join(way)}", folder, found)
+    print(f"{options.count} programs and a backtrace, in {len(WAYS)} ways: {entries} procedures, {passed_over} sources passed over, {kept.failed} faults")
+    print(worked.said())
+    compare_sources(options.ours, options.sources, kept)
+    return 1 if kept.failed else 0
 
 
 if __name__ == "__main__":
