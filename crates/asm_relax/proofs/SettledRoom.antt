@@ -4,6 +4,7 @@ use Rattle.std.specs.Prelude.{IfSome, slice_get, slice_index}
 use Rattle.std.specs.Option.{option_and_then}
 use Rattle.std.proofs.lemmas.Option.{none-some, same_Some}
 use Rattle.std.proofs.lemmas.List.{length-map}
+use Rattle.item_bytes.specs.declared.jumps.Condition.{Condition}
 use Rattle.asm_symbols.specs.SymbolMap.{SymbolMap}
 use Rattle.asm_frags.specs.declared.fields.Field.{Field}
 use Rattle.asm_frags.specs.SectionOf.{SectionOf}
@@ -209,6 +210,12 @@ room_by map sections laid kind shifts level field (Some distance) is held room =
     some (growth.Leb128 signed) room = room
     some growth.Advance room = room
 
+-- a jump whose field has no value is near: its row has no distance
+near_by : (kind : Growth) (shifts : List ℕ) (level : ℕ) (found : Option Distance) (value : Option ℕ) → value ≡ option_map (distance_value shifts) found → value ≡ None
+    → (condition : Option Condition) → kind ≡ growth.Jump condition → level_of kind found level ≡ 1
+near_by kind shifts level None value held none condition jump = ap (λ (k : Growth). level_of k None level) jump
+near_by kind shifts level (Some distance) value held none condition jump = absurd (none-some (distance_value shifts distance) (sym none ∙ held))
+
 pub settled_room : HoldTheirDistances → HaveRoom → ((rows : List Row) → NeedsWithin (need rows) (tops rows))
     → ((rows : List Row) → (rounds : ℕ) × IsLayout (need rows) (tops rows) (levels_of rows) rounds) → SettledHaveRoom
 unfolding settled_sections laid_by
@@ -249,4 +256,5 @@ settled_room hold room within ranked map sections number index at section item k
       room = room_by map sections laid kind shifts (slice_index levels place) field distance refl (hold map levels sections field few low stands)
           (room map levels sections field kind place row.row few low stands row.there size enough);
       near = near_room map laid number at section field found has;
+      linked = near_by kind shifts (slice_index levels place) distance (held_value map laid field) (hold map levels sections field few low stands);
     }
