@@ -14,7 +14,8 @@ use Rattle.x86_encode.specs.EncodingLaws.{EncodingsFill}
 use Rattle.x86_encode.specs.FieldPlaces.{EncodingsApart, EncodingsHoldUnknown}
 use Rattle.asm_values.specs.State.{nothing_placed}
 use Rattle.asm_place.specs.Sources.{pos_at}
-use Rattle.asm_place.specs.Instructions.{next_item, next_offset, IsWithin}
+use Rattle.section_laws.specs.Within.{IsWithin}
+use Rattle.asm_place.specs.Instructions.{next_item, next_offset}
 use Rattle.asm_place.specs.CodePlaces.{field_in, code_fields}
 use Rattle.asm_front.specs.Ending.{Flags, with_made}
 use Rattle.asm_front.specs.declared.ending.NotedObject.{NotedObject}

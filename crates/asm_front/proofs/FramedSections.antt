@@ -14,12 +14,12 @@ use Rattle.cfi_directives.specs.Procedures.{frames_of}
 use Rattle.eh_frame.specs.Pieces.{Tables, tables_of}
 use Rattle.eh_frame.specs.Placing.{placed}
 use Rattle.eh_frame.specs.Standing.{Extends}
-use Rattle.eh_frame.specs.Found as found
 use Rattle.eh_frame.specs.Found.{IsPlaced}
 use Rattle.eh_frame.specs.StandingPlaces.{LabelsStand}
 use Rattle.item_bytes.specs.declared.jumps.Condition.{Condition}
 use Rattle.asm_values.specs.State.{Placed}
-use Rattle.asm_place.specs.Instructions.{with_more, IsContinued, Grows, IsWithin, AreWithin, StandsAt}
+use Rattle.section_laws.specs.Within.{IsWithin, AreWithin}
+use Rattle.asm_place.specs.Instructions.{with_more, IsContinued, Grows, StandsAt}
 use Rattle.asm_place.specs.CodePlaces.{FieldInCode, blanked, field_in, CodeStandsAt}
 use Rattle.asm_place.specs.JumpPlaces.{JumpStandsAt}
 use Rattle.asm_front.specs.Ending.{framed}
@@ -27,7 +27,7 @@ use Rattle.asm_front.proofs.Lists.{get_append}
 
 -- what is known of frame tables: all that was in the sections stays, and the places of their labels stand
 pub record TableFacts : Type 0 where
-  pub put : (frame : Frame) (frames : List Frame) (tables after : Tables) → All found.IsWithin tables.sections → placed (frame ∷ frames) tables ≡ Ok after
+  pub put : (frame : Frame) (frames : List Frame) (tables after : Tables) → AreWithin tables.sections → placed (frame ∷ frames) tables ≡ Ok after
       → IsPlaced frame frames tables after
   pub labels : LabelsStand
 
@@ -71,15 +71,6 @@ continued_not section = record {
   items_behind = All-nil _;
 }
 
-within_table : (section : LooseSection) → IsWithin section → found.IsWithin section
-within_table section low = record { items = low.items; fields = low.fields; apart = low.apart }
-
-within_placed : (section : LooseSection) → found.IsWithin section → IsWithin section
-within_placed section low = record { items = low.items; fields = low.fields; apart = low.apart }
-
-pub tables_within : (sections : List LooseSection) → AreWithin sections → All found.IsWithin sections
-tables_within sections within = All-weaker IsWithin found.IsWithin within_table sections within
-
 not_grown : (before after : List LooseSection) → before ≡ after → Grows before after
 not_grown before after same =
     subst (λ (sections : List LooseSection). Grows before sections) same
@@ -96,14 +87,14 @@ framed_by facts [] tables after within is =
       within = subst (λ (t : Tables). AreWithin t.sections) same within;
     }
 framed_by facts (frame ∷ frames) tables after within is =
-    let put = facts.put frame frames tables after (tables_within tables.sections within) is in
+    let put = facts.put frame frames tables after within is in
     record {
       grows = record {
         kept = λ number section there.
             let now = put.grows number section there in
             continued section (slice_get after.sections number) now.0 now.1 now.2;
       };
-      within = All-weaker found.IsWithin IsWithin within_placed after.sections put.within;
+      within = put.within;
     }
 
 -- the sections with the frame table of what was placed

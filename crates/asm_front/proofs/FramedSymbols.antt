@@ -16,12 +16,13 @@ use Rattle.eh_frame.specs.Pieces.{Tables, tables_of}
 use Rattle.eh_frame.specs.Placing.{placed}
 use Rattle.eh_frame.specs.StandingPlaces.{HoldsItems, FrameStands, LabelStands, GetsStanding}
 use Rattle.asm_values.specs.State.{Placed}
-use Rattle.asm_place.specs.Instructions.{with_more, Grows, AreWithin}
+use Rattle.section_laws.specs.Within.{AreWithin}
+use Rattle.asm_place.specs.Instructions.{with_more, Grows}
 use Rattle.asm_place.specs.SymbolPlaces.{HasItems, MeaningStands, SymbolStands, SymbolsStand, ProcedureStands}
 use Rattle.frame_laws.specs.PlacedTables.{IsCovered}
 use Rattle.asm_front.specs.Synthesis.{Synthesis}
 use Rattle.asm_front.specs.Ending.{framed, procedures_by}
-use Rattle.asm_front.proofs.FramedSections.{TableFacts, tables_within}
+use Rattle.asm_front.proofs.FramedSections.{TableFacts}
 use Rattle.asm_front.proofs.JumpFields.{StandUpTo}
 
 -- THE PLACES OF PROCEDURES
@@ -45,7 +46,7 @@ labels_by facts [] tables after within stand is =
     let same : tables ≡ after = cc in
     subst (λ (t : Tables). GetsStanding t.sections tables.symbols t.symbols) same
     (record { labels = []; all = sym (append-nil tables.symbols.symbols); each = All-nil (LabelStands tables.sections) })
-labels_by facts (frame ∷ frames) tables after within stand is = facts.labels frame frames tables after (tables_within tables.sections within) stand is
+labels_by facts (frame ∷ frames) tables after within stand is = facts.labels frame frames tables after within stand is
 
 -- so do those of the table of what was placed
 pub labels_framed : TableFacts → (whole : Placed) (tables : Tables) → AreWithin whole.sections → All (FrameStands whole.sections) (frames_of whole.procedures) → framed whole ≡ Ok tables

@@ -36,7 +36,7 @@ use Rattle.asm_front.specs.Synthesis.{Synthesis, IsMadeAt}
 use Rattle.asm_front.specs.Ending.{Flags, unclosed, first_line, framed, framed_end, unless_open, finished, procedures_by, with_made, unless_fault, followed_end}
 use Rattle.asm_front.specs.declared.ending.NotedObject.{NotedObject}
 use Rattle.asm_front.specs.ReadsBack.{FramesReadBack}
-use Rattle.asm_front.proofs.FramedSections.{TableFacts, is_framed, tables_within}
+use Rattle.asm_front.proofs.FramedSections.{TableFacts, is_framed}
 use Rattle.asm_front.proofs.FramedSymbols.{AreCovered, frame_stands, holds_items}
 use Rattle.asm_front.proofs.SynthesizedFrames.{functions_covered}
 use Rattle.asm_front.proofs.JumpsInObject.{JumpFacts}
@@ -125,7 +125,7 @@ placed_ready table placing facts statements no_warn whole is =
     let stands = facts.places statements (nothing_placed no_warn) whole is (facts.starts no_warn) in
     let last = length whole.table.symbols.symbols in
     record {
-      within = tables_within whole.sections (placing.within statements (nothing_placed no_warn) whole is (placing.begins no_warn));
+      within = placing.within statements (nothing_placed no_warn) whole is (placing.begins no_warn);
       few = facts.few statements no_warn whole is;
       named = All-weaker (SymbolStands whole.sections last) (λ (symbol : Symbol). (at : SectionPlace) → symbol.name ≡ place_name at → IsLabelAt at symbol)
           (λ symbol both. place_label symbol symbol.meaning refl both.1)

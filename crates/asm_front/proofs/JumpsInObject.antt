@@ -43,7 +43,8 @@ use Rattle.elf_object.specs.Places.{section_offset, moved, IsFiled, ItemsStand}
 use Rattle.x86_table.specs.Reads.{Reads, ReadsOneWay}
 use Rattle.att_insns.specs.InsnTexts.{InsnText}
 use Rattle.asm_values.specs.State.{Placed, nothing_placed}
-use Rattle.asm_place.specs.Instructions.{next_offset, AreWithin}
+use Rattle.section_laws.specs.Within.{AreWithin}
+use Rattle.asm_place.specs.Instructions.{next_offset}
 use Rattle.asm_place.specs.CodePlaces.{ValueForms, insn_in, jump_in}
 use Rattle.asm_place.specs.SymbolPlaces.{AreUpTo, PlacesStand}
 use Rattle.asm_place.specs.JumpPlaces.{IsJump, jump_form, items_so_far, jump_field, JumpStandsAt, JumpStands, jump_written}

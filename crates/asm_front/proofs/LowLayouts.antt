@@ -21,7 +21,7 @@ use Rattle.asm_relax.specs.RangeChecks.{end_shift}
 use Rattle.asm_relax.specs.Layout.{laid_from, laid_out_section, laid_out, laid_by}
 use Rattle.asm_relax.specs.RisingRows.{Rise, AllRise}
 use Rattle.asm_relax.specs.Settling.{LaidItem, LaidSections, planned, settled_sections}
-use Rattle.asm_place.specs.Instructions.{IsWithin, AreWithin}
+use Rattle.section_laws.specs.Within.{IsWithin, AreWithin}
 
 -- behind another item the last one is the same
 last_behind : (first next : LaidItem) (items : List LaidItem) → end_shift (first ∷ next ∷ items) ≡ end_shift (next ∷ items)

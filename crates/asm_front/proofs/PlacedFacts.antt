@@ -5,7 +5,8 @@ use Rattle.x86_lookup.specs.BareInstructions.{Coded}
 use Rattle.att_insns.specs.InsnTexts.{InsnText}
 use Rattle.asm_values.specs.State.{Placed, nothing_placed}
 use Rattle.asm_place.specs.Sources.{pos_at, place_all}
-use Rattle.asm_place.specs.Instructions.{instruction_of, next_item, next_offset, AreWithin, StandsAt}
+use Rattle.section_laws.specs.Within.{AreWithin}
+use Rattle.asm_place.specs.Instructions.{instruction_of, next_item, next_offset, StandsAt}
 use Rattle.asm_place.specs.CodePlaces.{insn_in, jump_in, InsnStands}
 
 -- where they stand in all that is placed, and that what is placed stays

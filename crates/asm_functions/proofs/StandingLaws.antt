@@ -21,7 +21,8 @@ use Rattle.asm_place.specs.declared.bodies.Body.TheVariants as body
 use Rattle.asm_place.specs.declared.place_faults.FaultAt.{FaultAt}
 use Rattle.asm_place.specs.Bodies.{body_of, labels_of, front, back}
 use Rattle.asm_place.specs.Effects.{insn_view, fill_said}
-use Rattle.asm_place.specs.Instructions.{behind_labels, Grows, AreWithin}
+use Rattle.section_laws.specs.Within.{AreWithin}
+use Rattle.asm_place.specs.Instructions.{behind_labels, Grows}
 use Rattle.asm_place.specs.Sources.{place, place_all}
 use Rattle.asm_place.specs.SymbolPlaces.{PlacesStand}
 use Rattle.x86_insn.specs.Views.{View}

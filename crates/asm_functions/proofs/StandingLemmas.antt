@@ -11,7 +11,8 @@ use Rattle.asm_base.specs.declared.positions.Pos.{Pos}
 use Rattle.asm_frags.specs.declared.fields.Field.{Field}
 use Rattle.asm_frags.specs.Writing.{LooseItem, LooseSection}
 use Rattle.asm_uses.specs.Places.{spot_in, no_spot, spot_at}
-use Rattle.asm_place.specs.Instructions.{with_more, Grows, IsWithin, AreWithin}
+use Rattle.section_laws.specs.Within.{IsWithin, AreWithin}
+use Rattle.asm_place.specs.Instructions.{with_more, Grows}
 use Rattle.asm_place.specs.ProcedurePlaces.{IsInside}
 use Rattle.code_functions.specs.InOrder.{is_up_to}
 use Rattle.code_functions.specs.Recorded.{Recorded, is_open, is_open_in, begun, with_item, added, closed_by, all_closed, closed_at, last_of, closed_of}

@@ -33,14 +33,14 @@ use Rattle.asm_place.specs.Coding.{InsnShape, shape_in, forms_of, values_in, of_
 use Rattle.asm_place.specs.Placing.{place_body, place_label, place_unlabelled, place_labelled, has_wide_label, place_tokens}
 use Rattle.asm_place.specs.Sources.{pos_at, place, place_all}
 use Rattle.asm_place.specs.Bodies.{AreLabels}
-use Rattle.asm_place.specs.Instructions.{behind_labels, instruction_written, run_end, with_more, IsContinued, Grows, IsWithin, AreWithin}
+use Rattle.section_laws.specs.Within.{IsWithin, AreWithin, PutsStayWithin}
+use Rattle.asm_place.specs.Instructions.{behind_labels, instruction_written, run_end, with_more, IsContinued, Grows}
 use Rattle.asm_place.specs.CodePlaces.{text_read, insn_written, is_instruction, BeginsAsInstruction, insn_in, labelled, known_in, code_fields, with_held, zeros_in, blanked, AreApart, field_in, with_code, IsCodePut, IsInsnPut, CodeStandsAt, InsnStands, jump_in}
-use Rattle.asm_place.proofs.GrowthLemmas.{get_set, All-there, run_keeps, run_added}
+use Rattle.asm_place.proofs.GrowthLemmas.{get_set, All-there, zeros_long, run_keeps, run_within}
 use Rattle.asm_place.proofs.Walks.{FramesKeep}
 use Rattle.asm_place.proofs.PlacingLaws.{all_grow, all_within}
 use Rattle.asm_place.proofs.StatementSplits.{err-ok, same_Ok, both_ok, all_split}
 use Rattle.asm_place.proofs.InstructionLaws.{wide_ok, same_labels, label_keeps, located_ok, first_placed, run_items}
-use Rattle.asm_place.proofs.FieldOrder.{zeros_long}
 use Rattle.asm_place.proofs.CodeParts.{apart_inside, slice_long, code_none, set_same, apart_before, code_put}
 use Rattle.asm_place.proofs.CodingFields.{coding_apart}
 
@@ -365,8 +365,7 @@ module _ (pos : Pos) (section : LooseSection) (bytes : List ℕ) (fields : List 
   items_before =
       subst (λ n. All (λ (item : LooseItem). item.offset ≤ length section.bytes) (take n last.items)) items_so_far
       (subst (All (λ (item : LooseItem). item.offset ≤ length section.bytes)) (sym (take-append_seam begun.items later.items))
-      (subst (λ n. All (λ (item : LooseItem). item.offset ≤ n) begun.items) (run_keeps (λ s. length s.bytes) pos section refl)
-      ((run_added pos section).within within).items))
+      (run_within pos section within.items))
 
   items_behind : All (λ item. length section.bytes + length bytes ≤ item.offset) (drop (run_end section) last.items)
   items_behind =
@@ -407,11 +406,11 @@ put_stands before next whole number pos bytes fields put within grows =
     (grows.kept number new there))
 
 -- an instruction with operands stands in the whole
-pub insn_there : FramesKeep → EncodingsApart
+pub insn_there : FramesKeep → PutsStayWithin → EncodingsApart
     → (front : List TokenStatement) (s : TokenStatement) (later : List TokenStatement) (before placed whole : Placed) (text : InsnText)
     → AreWithin before.sections → place_all front before ≡ Ok placed → place_all (front ++ s ∷ later) before ≡ Ok whole → insn_in placed.syntax s ≡ Some text
     → jump_in text ≡ None → InsnStands whole.sections (pos_at s.file s.line) s.tokens text placed
-insn_there frames places front s later before placed whole text within is_front is_whole written no_jump =
+insn_there frames law places front s later before placed whole text within is_front is_whole written no_jump =
     first_placed s later placed whole (sym (all_split front (s ∷ later) before ∙ ap (λ r. r >>= place_all (s ∷ later)) is_front) ∙ is_whole)
     (λ next is_next is_later.
     let insn = statement_put places s placed next text written no_jump is_next in
@@ -420,5 +419,5 @@ insn_there frames places front s later before placed whole text within is_front 
       stands =
           put_stands placed.sections next.sections whole.sections placed.current (pos_at s.file s.line) insn.coded.made.bytes
           (code_fields text insn.coded.forms insn.coded.made)
-          insn.put (all_within frames front before placed is_front within) (all_grow frames later next whole is_later);
+          insn.put (all_within frames law front before placed is_front within) (all_grow frames later next whole is_later);
     })

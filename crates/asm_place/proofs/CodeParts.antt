@@ -22,8 +22,7 @@ use Rattle.asm_values.specs.State.{Placed, put_section, put_bytes_into, put_fiel
 use Rattle.asm_place.specs.declared.codes.CodeField.{CodeField}
 use Rattle.asm_place.specs.Coding.{put_rest, put_code}
 use Rattle.asm_place.specs.CodePlaces.{with_held, zeros_in, AreApart, field_in, with_code}
-use Rattle.asm_place.proofs.FieldOrder.{zeros_long}
-use Rattle.asm_place.proofs.GrowthLemmas.{get_set, set_twice, run_keeps}
+use Rattle.asm_place.proofs.GrowthLemmas.{get_set, set_twice, zeros_long, run_keeps}
 use Rattle.asm_place.proofs.StatementSplits.{err-ok, same_Ok, both_ok}
 
 -- a run that is put last is last

@@ -9,7 +9,7 @@ use Rattle.item_contents.specs.declared.contents.Content.TheVariants.{Run, Growi
 use Rattle.item_contents.specs.declared.kinds.Growth.{Growth}
 use Rattle.asm_frags.specs.declared.fields.Field.{Field}
 use Rattle.asm_frags.specs.declared.fields.FieldSize.{FieldSize}
-use Rattle.asm_frags.specs.declared.fields.FieldSize.TheVariants.{Four}
+use Rattle.asm_frags.specs.declared.fields.FieldSize.TheVariants.{One, Two, Four, Eight}
 use Rattle.asm_frags.specs.declared.roles.FieldRole.{FieldRole}
 use Rattle.x86_insn.specs.declared.amounts.Suffix.{Suffix}
 use Rattle.asm_frags.specs.Fields.{width, growth_role}
@@ -19,9 +19,9 @@ use Rattle.asm_frags.specs.SectionOf.{new_section}
 use Rattle.asm_frags.specs.Sections.{section_flags, first_sections}
 use Rattle.asm_frags.specs.Writing.{LooseItem, LooseSection, ends_in_run, new_item, item_behind, with_item, with_run, with_bytes, with_field, with_growing}
 use Rattle.asm_values.specs.State.{nothing_placed}
-use Rattle.asm_place.specs.Instructions.{with_more, IsContinued, Grows, IsWithin, AreWithin}
+use Rattle.section_laws.specs.Within.{CountsItems, IsWithin, AreWithin, PutsStayWithin}
+use Rattle.asm_place.specs.Instructions.{with_more, IsContinued, Grows}
 use Rattle.asm_place.specs.SourceSizes.{HasShortName, AreFewSections}
-use Rattle.asm_place.proofs.FieldOrder.{stand_more, stand_both, stand_last}
 
 -- two numbers are one or not
 pub same_or_not : (i j : ℕ) → (j ≡ i) ⊎ (j ≢ i)
@@ -62,6 +62,13 @@ module _ {X : Type 0} where
   All-there P [] i x there all = absurd (none-some x there)
   All-there P (y ∷ xs) zero x there all = subst P (same_Some y x there) (All-head P y xs all)
   All-there P (y ∷ xs) (suc i) x there all = All-there P xs i x there (All-tail P y xs all)
+
+-- as many zeros as a field has bytes
+pub zeros_long : (size : FieldSize) → length {A = ℕ} (replicate (width size) 0) ≡ width size
+zeros_long One = refl
+zeros_long Two = refl
+zeros_long Four = refl
+zeros_long Eight = refl
 
 -- what two sections tell alike, either tells
 pub told_by : {Y : Type 0} (tells : LooseSection → Y) (test : Bool) (one other : LooseSection) → tells other ≡ tells one → tells (cond test one other) ≡ tells one
@@ -113,12 +120,12 @@ continued_on section found last one later =
 -- what is put into a section continues it, and keeps its fields and items within its bytes
 pub record IsAdded (section new : LooseSection) : Type 0 where
   pub continued : IsContinued section (Some new)
-  pub within : IsWithin section → IsWithin new
+  pub within : PutsStayWithin → IsWithin section → IsWithin new
 
 -- the same of sections, of which few with short names stay few with short names
 pub record Adds (before after : List LooseSection) : Type 0 where
   pub grows : Grows before after
-  pub within : AreWithin before → AreWithin after
+  pub within : PutsStayWithin → AreWithin before → AreWithin after
   pub few : AreFewSections before → AreFewSections after
 
 -- nothing is put
@@ -146,13 +153,13 @@ grows_by before number section new there continued = record {
 
 -- sections that stay
 pub adds_nothing : (sections : List LooseSection) → Adds sections sections
-adds_nothing sections = record { grows = grows_not sections; within = λ all. all; few = λ few. few }
+adds_nothing sections = record { grows = grows_not sections; within = λ law all. all; few = λ few. few }
 
 -- what is added to twice is added to
 pub adds_on : (before between after : List LooseSection) → Adds before between → Adds between after → Adds before after
 adds_on before between after first later = record {
   grows = grows_on before between after first.grows later.grows;
-  within = λ all. later.within (first.within all);
+  within = λ law all. later.within law (first.within law all);
   few = λ few. later.few (first.few few);
 }
 
@@ -161,7 +168,7 @@ pub adds_to : (before : List LooseSection) (number : ℕ) (section new : LooseSe
     → Adds before (set before number new)
 adds_to before number section new there added = record {
   grows = grows_by before number section new there added.continued;
-  within = λ all. All-set IsWithin before number new (added.within (All-there IsWithin before number section there all)) all;
+  within = λ law all. All-set IsWithin before number new (added.within law (All-there IsWithin before number section there all)) all;
   few = λ few.
       let count = few.few in
       let name : new.name ≡ section.name =
@@ -178,10 +185,11 @@ pub adds_section : (before : List LooseSection) (new : LooseSection) → new.fie
     → Adds before (before ++ new ∷ [])
 adds_section before new no_fields no_items room short = record {
   grows = record { kept = λ number section there. subst (IsContinued section) (sym (get_append before (new ∷ []) number section there)) (continued_not section) };
-  within = λ all. All-push IsWithin before new all (record {
+  within = λ law all. All-push IsWithin before new all (record {
     fields = subst (All (λ (field : Field). field_end field ≤ length new.bytes)) (sym no_fields) (All-nil _);
     apart = subst (FieldsStand new.bytes 0) (sym no_fields) tt;
     items = subst (All (λ (item : LooseItem). item.offset ≤ length new.bytes)) (sym no_items) (All-nil _);
+    counted = subst (All (CountsItems new.fields new.items)) (sym no_fields) (All-nil _);
   });
   few = λ few. record {
     few = omega (arith, room, length-append before (new ∷ []));
@@ -200,11 +208,7 @@ item_added item section = record {
     fields_behind = All-nil _;
     items_behind = All-cons (λ (item : LooseItem). length section.bytes ≤ item.offset) _ [] (omega arith) (All-nil _);
   };
-  within = λ within. record {
-    fields = within.fields;
-    apart = within.apart;
-    items = All-push (λ (item : LooseItem). item.offset ≤ length section.bytes) section.items (item_behind (length section.bytes) item) within.items (omega arith);
-  };
+  within = λ law within. law.item item section within;
 }
 
 -- an item that grows, and its field in it
@@ -223,104 +227,78 @@ growing_field pos number kind suffix form section = record {
 -- with its field it is put last
 pub growing_added : (pos : Pos) (number : ℕ) (kind : Growth) (suffix : Option Suffix) (form : Form) (section : LooseSection)
     → IsAdded section (with_growing pos number kind suffix form section)
-growing_added pos number kind suffix form section =
-    let item = item_behind (length section.bytes) (new_item pos (Growing (record { kind = kind; field = length section.fields }))) in
-    let field = growing_field pos number kind suffix form section in
-    record {
-      continued = record {
-        bytes = [];
-        fields = field ∷ [];
-        items = item ∷ [];
-        there = ap Some (same_holding section _ _ _ _ _ _ (sym (append-nil section.bytes)) refl refl);
-        fields_behind = All-cons (λ (field : Field). length section.bytes ≤ field.offset) _ [] (omega arith) (All-nil _);
-        items_behind = All-cons (λ (item : LooseItem). length section.bytes ≤ item.offset) _ [] (omega arith) (All-nil _);
-      };
-      within = λ within. record {
-        fields = All-push (λ (field : Field). field_end field ≤ length section.bytes) section.fields field within.fields (omega arith);
-        apart = stand_both section.bytes 0 (length section.bytes) section.fields (field ∷ []) (omega arith) within.fields within.apart
-            (λ at before. subst (λ bytes. FieldsStand bytes at (field ∷ [])) (append-nil section.bytes) (stand_last section.bytes field refl at before));
-        items = All-push (λ (item : LooseItem). item.offset ≤ length section.bytes) section.items item within.items (omega arith);
-      };
-    }
-
--- a run, where none is last
-run_by : (test : Bool) (pos : Pos) (section : LooseSection) → IsAdded section (cond test section (with_item (new_item pos Run) section))
-run_by true pos section = record { continued = continued_not section; within = λ within. within }
-run_by false pos section = item_added (new_item pos Run) section
-
--- so it is whichever is last
-pub run_added : (pos : Pos) (section : LooseSection) → IsAdded section (with_run pos section)
-run_added pos section = run_by (ends_in_run section.items) pos section
+growing_added pos number kind suffix form section = record {
+  continued = record {
+    bytes = [];
+    fields = growing_field pos number kind suffix form section ∷ [];
+    items = item_behind (length section.bytes) (new_item pos (Growing (record { kind = kind; field = length section.fields }))) ∷ [];
+    there = ap Some (same_holding section _ _ _ _ _ _ (sym (append-nil section.bytes)) refl refl);
+    fields_behind = All-cons (λ (field : Field). length section.bytes ≤ field.offset) _ [] (omega arith) (All-nil _);
+    items_behind = All-cons (λ (item : LooseItem). length section.bytes ≤ item.offset) _ [] (omega arith) (All-nil _);
+  };
+  within = λ law within. law.growing pos number kind suffix form section within;
+}
 
 -- a run changes neither the bytes nor the fields, nor what the section says of itself
 pub run_keeps : {Y : Type 0} (tells : LooseSection → Y) (pos : Pos) (section : LooseSection) → tells (with_item (new_item pos Run) section) ≡ tells section
     → tells (with_run pos section) ≡ tells section
 run_keeps tells pos section same = told_by tells (ends_in_run section.items) section (with_item (new_item pos Run) section) same
 
--- more bytes, and fields over them
-more_added : (section : LooseSection) (bytes : List ℕ) (fields : List Field) → All (λ field. length section.bytes ≤ field.offset) fields
-    → All (λ field. field_end field ≤ length (section.bytes ++ bytes)) fields → ((at : ℕ) → at ≤ length section.bytes → FieldsStand (section.bytes ++ bytes) at fields)
-    → IsAdded section (with_more section bytes fields [])
-more_added section bytes fields behind over apart =
-    let longer = length-append section.bytes bytes in
-    record {
-      continued = record { bytes = bytes; fields = fields; items = []; there = refl; fields_behind = behind; items_behind = All-nil _ };
-      within = λ within. record {
-        fields = All-append (λ (field : Field). field_end field ≤ length (section.bytes ++ bytes)) section.fields fields
-            (All-weaker (λ (field : Field). field_end field ≤ length section.bytes) (λ (field : Field). field_end field ≤ length (section.bytes ++ bytes))
-            (λ field ends. omega (arith, longer, ends)) section.fields within.fields) over;
-        apart = stand_both (section.bytes ++ bytes) 0 (length section.bytes) section.fields fields (omega arith) within.fields
-            (stand_more section.bytes bytes 0 section.fields within.apart) apart;
-        items = subst (All (λ (item : LooseItem). item.offset ≤ length (section.bytes ++ bytes))) (sym (append-nil section.items))
-            (All-weaker (λ (item : LooseItem). item.offset ≤ length section.bytes) (λ (item : LooseItem). item.offset ≤ length (section.bytes ++ bytes))
-            (λ item stands. omega (arith, longer, stands)) section.items within.items);
-      };
-    }
+-- where all items stand within the bytes, the run does too
+run_low : (test : Bool) (pos : Pos) (section : LooseSection) → All (λ item. item.offset ≤ length section.bytes) section.items
+    → All (λ item. item.offset ≤ length section.bytes) (cond test section (with_item (new_item pos Run) section)).items
+run_low true pos section low = low
+run_low false pos section low = All-push (λ (item : LooseItem). item.offset ≤ length section.bytes) section.items _ low (omega arith)
 
--- one after the other
-pub added_on : (section between new : LooseSection) → IsAdded section between → IsAdded between new → IsAdded section new
-added_on section between new first later = record {
-  continued = continued_on section (Some between) (Some new) first.continued (λ s is. subst (λ s. IsContinued s (Some new)) (same_Some between s is) later.continued);
-  within = λ within. later.within (first.within within);
-}
+pub run_within : (pos : Pos) (section : LooseSection) → All (λ item. item.offset ≤ length section.bytes) section.items
+    → All (λ item. item.offset ≤ length section.bytes) (with_run pos section).items
+run_within pos section low = run_low (ends_in_run section.items) pos section low
 
--- bytes behind a run that is last
-bytes_are_more : (pos : Pos) (more : List ℕ) (section : LooseSection) → with_more (with_run pos section) more [] [] ≡ with_bytes pos more section
-bytes_are_more pos more section =
-    same_holding (with_run pos section) _ _ _ _ _ _ (ap (λ bytes. bytes ++ more) (run_keeps (λ s. s.bytes) pos section refl))
-    (append-nil (with_run pos section).fields) (append-nil (with_run pos section).items)
+-- a run, where none is last
+run_by : (test : Bool) (pos : Pos) (section : LooseSection) → IsContinued section (Some (cond test section (with_item (new_item pos Run) section)))
+run_by true pos section = continued_not section
+run_by false pos section = (item_added (new_item pos Run) section).continued
+
+-- bytes, and fields over them, go on with the run that is last, or a new one
+more_continued : (pos : Pos) (section new : LooseSection) (bytes : List ℕ) (fields : List Field) → All (λ field. length section.bytes ≤ field.offset) fields
+    → with_more (with_run pos section) bytes fields [] ≡ new → IsContinued section (Some new)
+more_continued pos section new bytes fields behind is =
+    let run = with_run pos section in
+    let same : length run.bytes ≡ length section.bytes = run_keeps (λ s. length s.bytes) pos section refl in
+    continued_on section (Some run) (Some new) (run_by (ends_in_run section.items) pos section)
+    (λ s there. subst (λ s. IsContinued s (Some new)) (same_Some run s there)
+    (record {
+      bytes = bytes;
+      fields = fields;
+      items = [];
+      there = ap Some (sym is);
+      fields_behind = subst (λ n. All (λ (field : Field). n ≤ field.offset) fields) (sym same) behind;
+      items_behind = All-nil _;
+    }))
 
 -- bytes that are put
 pub bytes_added : (pos : Pos) (more : List ℕ) (section : LooseSection) → IsAdded section (with_bytes pos more section)
-bytes_added pos more section =
-    added_on section (with_run pos section) _ (run_added pos section)
-    (subst (IsAdded (with_run pos section)) (bytes_are_more pos more section) (more_added (with_run pos section) more [] (All-nil _) (All-nil _) (λ at before. tt)))
+bytes_added pos more section = record {
+  continued = more_continued pos section _ more [] (All-nil _)
+      (same_holding (with_run pos section) _ _ _ _ _ _ (ap (λ bytes. bytes ++ more) (run_keeps (λ s. s.bytes) pos section refl))
+      (append-nil (with_run pos section).fields) (append-nil (with_run pos section).items));
+  within = λ law within. law.bytes pos more section within;
+}
 
 -- a field over zeros
 abbrev field_of : Pos → ℕ → FieldSize → FieldRole → Form → LooseSection → Field
 field_of pos number size role form section =
     record { pos = pos; item = length (with_run pos section).items; offset = length section.bytes; section = number; size = size; role = role; in_item = false; form = form }
 
--- bytes and a field over them behind a run that is last
-field_is_more : (pos : Pos) (number : ℕ) (size : FieldSize) (role : FieldRole) (form : Form) (section : LooseSection)
-    → with_more (with_run pos section) (replicate (width size) 0) (field_of pos number size role form section ∷ []) [] ≡ with_field pos number size role form section
-field_is_more pos number size role form section =
-    same_holding (with_run pos section) _ _ _ _ _ _ (ap (λ bytes. bytes ++ replicate (width size) 0) (run_keeps (λ s. s.bytes) pos section refl))
-    (ap (λ fields. fields ++ field_of pos number size role form section ∷ []) (run_keeps (λ s. s.fields) pos section refl)) (append-nil (with_run pos section).items)
-
 -- a field that is put
 pub field_added : (pos : Pos) (number : ℕ) (size : FieldSize) (role : FieldRole) (form : Form) (section : LooseSection) → IsAdded section (with_field pos number size role form section)
-field_added pos number size role form section =
-    let run = with_run pos section in
-    let zeros : List ℕ = replicate (width size) 0 in
-    let same : length run.bytes ≡ length section.bytes = ap length (run_keeps (λ s. s.bytes) pos section refl) in
-    added_on section run _ (run_added pos section)
-    (subst (IsAdded run) (field_is_more pos number size role form section)
-    (more_added run zeros (field_of pos number size role form section ∷ [])
-    (All-cons (λ (field : Field). length run.bytes ≤ field.offset) _ [] (omega (arith, same)) (All-nil _))
-    (All-cons (λ (field : Field). field_end field ≤ length (run.bytes ++ zeros)) _ []
-    (omega (arith, same, length-append run.bytes zeros, length-replicate {A = ℕ} (width size) 0)) (All-nil _))
-    (stand_last run.bytes (field_of pos number size role form section) (sym same))))
+field_added pos number size role form section = record {
+  continued = more_continued pos section _ (replicate (width size) 0) (field_of pos number size role form section ∷ [])
+      (All-cons (λ (field : Field). length section.bytes ≤ field.offset) _ [] (omega arith) (All-nil _))
+      (same_holding (with_run pos section) _ _ _ _ _ _ (ap (λ bytes. bytes ++ replicate (width size) 0) (run_keeps (λ s. s.bytes) pos section refl))
+      (ap (λ fields. fields ++ field_of pos number size role form section ∷ []) (run_keeps (λ s. s.fields) pos section refl)) (append-nil (with_run pos section).items));
+  within = λ law within. law.field pos number size role form section within;
+}
 
 -- a new section has neither fields nor items, and so have the first ones
 new_within : (name : List ℕ) (flags : SectionFlags) (kind entry_size : ℕ) → IsWithin (new_section name flags kind entry_size)
@@ -328,6 +306,7 @@ new_within name flags kind entry_size = record {
   fields = All-nil (λ (field : Field). field_end field ≤ 0);
   apart = tt;
   items = All-nil (λ (item : LooseItem). item.offset ≤ 0);
+  counted = All-nil _;
 }
 
 -- they hold all that they have

@@ -32,8 +32,9 @@ use Rattle.asm_place.specs.Coding.{lone_code, place_coded, place_instruction}
 use Rattle.asm_place.specs.Placing.{place_body, place_label, place_labelled, has_wide_label, place_tokens}
 use Rattle.asm_place.specs.Sources.{pos_at, located, place, place_all}
 use Rattle.asm_place.specs.Bodies.{AreLabels}
-use Rattle.asm_place.specs.Instructions.{behind_labels, instruction_written, instruction_of, run_end, next_item, next_offset, with_more, IsContinued, Grows, IsWithin, AreWithin, IsPut, StandsAt}
-use Rattle.asm_place.proofs.GrowthLemmas.{get_set, All-there, run_keeps, run_added}
+use Rattle.section_laws.specs.Within.{IsWithin, AreWithin, PutsStayWithin}
+use Rattle.asm_place.specs.Instructions.{behind_labels, instruction_written, instruction_of, run_end, next_item, next_offset, with_more, IsContinued, Grows, IsPut, StandsAt}
+use Rattle.asm_place.proofs.GrowthLemmas.{get_set, All-there, run_keeps, run_within}
 use Rattle.asm_place.proofs.Walks.{FramesKeep}
 use Rattle.asm_place.proofs.PlacingLaws.{all_grow, all_within}
 use Rattle.asm_place.proofs.StatementSplits.{err-ok, same_Ok, both_ok, all_split}
@@ -225,7 +226,7 @@ module _ (pos : Pos) (section : LooseSection) (bytes : List ℕ) (within : IsWit
   items_before =
       subst (λ n. All (λ (item : LooseItem). item.offset ≤ length section.bytes) (take n last.items)) items_so_far
       (subst (All (λ (item : LooseItem). item.offset ≤ length section.bytes)) (sym (take-append_seam begun.items later.items))
-      (subst (λ n. All (λ (item : LooseItem). item.offset ≤ n) begun.items) (run_keeps (λ s. length s.bytes) pos section refl) ((run_added pos section).within within).items))
+      (run_within pos section within.items))
 
   items_behind : All (λ item. length section.bytes + length bytes ≤ item.offset) (drop (run_end section) last.items)
   items_behind =
@@ -256,11 +257,11 @@ put_stands before next whole number pos bytes put within grows =
     (stands pos put.section bytes (All-there IsWithin before number put.section put.there within) whole number (grows.kept number new there) put.takes_bytes)
 
 -- the bytes of an instruction stand in the whole
-pub instruction_there : FramesKeep → BareCodesStand → (front : List TokenStatement) (s : TokenStatement) (later : List TokenStatement) (before placed whole : Placed) (coded : Coded)
+pub instruction_there : FramesKeep → PutsStayWithin → BareCodesStand → (front : List TokenStatement) (s : TokenStatement) (later : List TokenStatement) (before placed whole : Placed) (coded : Coded)
     → AreWithin before.sections → place_all front before ≡ Ok placed → place_all (front ++ s ∷ later) before ≡ Ok whole → instruction_of placed.syntax s ≡ Some coded
     → StandsAt whole.sections placed.current (next_item placed) (next_offset placed) coded.bytes
-instruction_there frames stand front s later before placed whole coded within is_front is_whole written =
+instruction_there frames law stand front s later before placed whole coded within is_front is_whole written =
     first_placed s later placed whole (sym (all_split front (s ∷ later) before ∙ ap (λ r. r >>= place_all (s ∷ later)) is_front) ∙ is_whole)
     (λ next is_next is_later.
     put_stands placed.sections next.sections whole.sections placed.current (pos_at s.file s.line) coded.bytes
-    (statement_put stand s placed next coded written is_next) (all_within frames front before placed is_front within) (all_grow frames later next whole is_later))
+    (statement_put stand s placed next coded written is_next) (all_within frames law front before placed is_front within) (all_grow frames later next whole is_later))

@@ -38,7 +38,8 @@ use Rattle.amount_forms.specs.Amounts.{in_text_order}
 use Rattle.asm_place.specs.Coding.{shape_in, forms_of, keeps_place, put_by_jump, put_insn, is_target, is_absent, is_bare, jump_named, place_insn, place_text}
 use Rattle.asm_place.specs.Placing.{has_wide_label, place_labelled, place_tokens}
 use Rattle.asm_place.specs.Sources.{pos_at, place, place_all}
-use Rattle.asm_place.specs.Instructions.{behind_labels, with_more, IsContinued, Grows, IsWithin, AreWithin}
+use Rattle.section_laws.specs.Within.{IsWithin, AreWithin, PutsStayWithin}
+use Rattle.asm_place.specs.Instructions.{behind_labels, with_more, IsContinued, Grows}
 use Rattle.asm_place.specs.CodePlaces.{insn_written, insn_in, known_in, jump_in}
 use Rattle.asm_place.specs.JumpPlaces.{jump_form, IsJumpPut, items_so_far, jump_field, JumpStandsAt, JumpStands, jump_written}
 use Rattle.asm_place.proofs.GrowthLemmas.{get_set, All-there}
@@ -188,16 +189,16 @@ put_stands before next whole pos tokens text condition put within grows =
     (grows.kept number new there))
 
 -- a jump stands in the whole
-pub jump_there : FramesKeep → (front : List TokenStatement) (s : TokenStatement) (later : List TokenStatement) (before placed whole : Placed) (text : InsnText) (condition : Option Condition)
+pub jump_there : FramesKeep → PutsStayWithin → (front : List TokenStatement) (s : TokenStatement) (later : List TokenStatement) (before placed whole : Placed) (text : InsnText) (condition : Option Condition)
     → AreWithin before.sections → place_all front before ≡ Ok placed → place_all (front ++ s ∷ later) before ≡ Ok whole → insn_in placed.syntax s ≡ Some text
     → jump_in text ≡ Some condition → JumpStands whole.sections (pos_at s.file s.line) s.tokens text condition placed
-jump_there frames front s later before placed whole text condition within is_front is_whole written jump =
+jump_there frames law front s later before placed whole text condition within is_front is_whole written jump =
     first_placed s later placed whole (sym (all_split front (s ∷ later) before ∙ ap (λ r. r >>= place_all (s ∷ later)) is_front) ∙ is_whole)
     (λ next is_next is_later.
     let put = statement_jumps s placed next text condition written jump is_next in
     record {
       jump = put.jump;
-      stands = put_stands placed next whole (pos_at s.file s.line) s.tokens text condition put (all_within frames front before placed is_front within)
+      stands = put_stands placed next whole (pos_at s.file s.line) s.tokens text condition put (all_within frames law front before placed is_front within)
           (all_grow frames later next whole is_later);
     })
 

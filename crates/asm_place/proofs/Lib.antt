@@ -3,7 +3,6 @@ mod RemarkLemmas
 mod TokenLists
 mod AmountTrees
 mod EffectLemmas
-mod FieldOrder
 mod GrowthLemmas
 mod LabelLemmas
 mod BodyLemmas

@@ -30,7 +30,8 @@ use Rattle.asm_place.specs.Coding.{InsnShape, shape_in, forms_of, values_in, of_
 use Rattle.asm_place.specs.Sources.{pos_at, located, place, place_all}
 use Rattle.asm_place.specs.declared.place_faults.FaultAt.{FaultAt}
 use Rattle.asm_place.specs.Faults.{is_file_too_large, is_too_large, statement_fault}
-use Rattle.asm_place.specs.Instructions.{Grows, AreWithin}
+use Rattle.section_laws.specs.Within.{AreWithin, PutsStayWithin}
+use Rattle.asm_place.specs.Instructions.{Grows}
 use Rattle.asm_place.specs.SourceSizes.{AreFewSections}
 use Rattle.asm_place.proofs.GrowthLemmas.{nothing_within, nothing_few}
 use Rattle.asm_uses.specs.Tables.{changed_by, naming_of}
@@ -154,19 +155,19 @@ module _ (frames : FramesKeep) where
   all_grow statements before placed is = (all_led statements before placed is).adds.grows
 
   -- and keeps its fields and items within its bytes
-  pub all_within : (statements : List TokenStatement) (before placed : Placed) → place_all statements before ≡ Ok placed → AreWithin before.sections → AreWithin placed.sections
-  all_within statements before placed is = (all_led statements before placed is).adds.within
+  pub all_within : PutsStayWithin → (statements : List TokenStatement) (before placed : Placed) → place_all statements before ≡ Ok placed → AreWithin before.sections → AreWithin placed.sections
+  all_within law statements before placed is = (all_led statements before placed is).adds.within law
 
   -- few sections with short names stay so
   pub all_few : (statements : List TokenStatement) (no_warn : Bool) (placed : Placed) → place_all statements (nothing_placed no_warn) ≡ Ok placed → AreFewSections placed.sections
   all_few statements no_warn placed is = (all_led statements (nothing_placed no_warn) placed is).adds.few (nothing_few no_warn)
 
   -- the procedures of all statements stand in order
-  pub all_in_order : DirectivesKeep → (statements : List TokenStatement) (no_warn : Bool) (placed : Placed) → place_all statements (nothing_placed no_warn) ≡ Ok placed
+  pub all_in_order : DirectivesKeep → PutsStayWithin → (statements : List TokenStatement) (no_warn : Bool) (placed : Placed) → place_all statements (nothing_placed no_warn) ≡ Ok placed
       → PlacesStand placed → StandInOrder placed.sections placed.procedures
-  all_in_order laws statements no_warn placed is stands =
+  all_in_order laws law statements no_warn placed is stands =
       stand_in_order placed.sections placed.procedures stands.procedures
-      ((all_led statements (nothing_placed no_warn) placed is).fit laws (nothing_within no_warn) (nothing_fit (nothing_placed no_warn).sections))
+      ((all_led statements (nothing_placed no_warn) placed is).fit laws law (nothing_within no_warn) (nothing_fit (nothing_placed no_warn).sections))
 
 -- no fault of placing is that a file is too large
 not_of_reading : (tokens : List SpelledToken) (fault : PlaceCause) → is_too_large (statement_fault tokens fault) ≡ false

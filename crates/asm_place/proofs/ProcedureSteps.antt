@@ -21,7 +21,8 @@ use Rattle.cfi_directives.specs.Order.{IsUpTo, last_place, IsInOrder, AreInOrder
 use Rattle.cfi_directives.specs.Procedures.{Procedures, no_procedures, frames_of}
 use Rattle.cfi_directives.specs.Sound.{IsWhole, AreSound}
 use Rattle.cfi_directives.specs.Taking.{taken, taken_from}
-use Rattle.asm_place.specs.Instructions.{with_more, Grows, IsWithin, AreWithin}
+use Rattle.section_laws.specs.Within.{IsWithin, AreWithin, PutsStayWithin}
+use Rattle.asm_place.specs.Instructions.{with_more, Grows}
 use Rattle.asm_place.specs.ProcedurePlaces.{IsInside, StandsInside, StandInOrder}
 use Rattle.asm_place.specs.SymbolPlaces.{ProcedureStands}
 use Rattle.asm_place.proofs.GrowthLemmas.{Adds, All-there, adds_nothing, adds_on}
@@ -202,7 +203,7 @@ module _ (laws : DirectivesKeep) (placed : Placed) (within : AreWithin placed.se
 -- sections are added to, and procedures stay fit
 pub record Leads (before : List LooseSection) (had : Procedures) (after : List LooseSection) (has : Procedures) : Type 0 where
   pub adds : Adds before after
-  pub fit : DirectivesKeep → AreWithin before → AreFit before had → AreFit after has
+  pub fit : DirectivesKeep → PutsStayWithin → AreWithin before → AreFit before had → AreFit after has
 
 -- what was placed leads to more
 abbrev pub Led : Placed → Placed → Type 0
@@ -214,7 +215,7 @@ Steps before = Fine (Led before)
 
 -- sections alone are added to
 pub leads_by : (before after : List LooseSection) (procedures : Procedures) → Adds before after → Leads before procedures after procedures
-leads_by before after procedures adds = record { adds = adds; fit = λ laws within fit. fit_later before after procedures adds.grows fit }
+leads_by before after procedures adds = record { adds = adds; fit = λ laws law within fit. fit_later before after procedures adds.grows fit }
 
 -- both stay
 pub still : (placed : Placed) → Led placed placed
@@ -224,12 +225,12 @@ still placed = leads_by placed.sections placed.sections placed.procedures (adds_
 pub leads_lines : (placed : Placed) (lines : List CfiLine) (procedures : Procedures) → taken_from placed.procedures (map (line_here placed) lines) ≡ Ok procedures
     → Leads placed.sections placed.procedures placed.sections procedures
 leads_lines placed lines procedures is =
-    record { adds = adds_nothing placed.sections; fit = λ laws within fit. lines_fit laws placed within lines placed.procedures procedures is fit }
+    record { adds = adds_nothing placed.sections; fit = λ laws law within fit. lines_fit laws placed within lines placed.procedures procedures is fit }
 
 leads_on : (before between after : Placed) → Led before between → Led between after → Led before after
 leads_on before between after first later = record {
   adds = adds_on before.sections between.sections after.sections first.adds later.adds;
-  fit = λ laws within fit. later.fit laws (first.adds.within within) (first.fit laws within fit);
+  fit = λ laws law within fit. later.fit laws law (first.adds.within law within) (first.fit laws law within fit);
 }
 
 -- what is led to leads on

@@ -5,7 +5,7 @@ use Rattle.asm_base.specs.Tokens.{SpelledToken}
 use Rattle.asm_base.specs.declared.positions.Pos.{Pos}
 use Rattle.asm_lines.specs.NextStatements.{TokenStatement}
 use Rattle.asm_frags.specs.declared.fields.Field.{Field}
-use Rattle.asm_frags.specs.PlainBytes.{field_end, IsBeside, FieldsStand}
+use Rattle.asm_frags.specs.PlainBytes.{IsBeside}
 use Rattle.asm_frags.specs.Writing.{LooseItem, LooseSection, ends_in_run, with_bytes}
 use Rattle.x86_lookup.specs.BareInstructions.{Coded, bare_instruction}
 use Rattle.asm_operands.specs.Operands.{is_name, is_label, begins_with_dot}
@@ -61,17 +61,6 @@ pub record IsContinued (section : LooseSection) (later : Option LooseSection) : 
 -- each section is continued
 pub record Grows (before after : List LooseSection) : Type 0 where
   pub kept : (number : ℕ) (section : LooseSection) → slice_get before number ≡ Some section → IsContinued section (slice_get after number)
-
--- each field of the section ends within its bytes, the fields stand in order and apart over zeros, and each item stands within the bytes or
--- behind them
-pub record IsWithin (section : LooseSection) : Type 0 where
-  pub fields : All (λ field. field_end field ≤ length section.bytes) section.fields
-  pub apart : FieldsStand section.bytes 0 section.fields
-  pub items : All (λ item. item.offset ≤ length section.bytes) section.items
-
--- each section is so
-abbrev pub AreWithin : List LooseSection → Type 0
-AreWithin sections = All IsWithin sections
 
 -- the bytes of the statement at this place are put last in the section of this number, which takes bytes; all else is as it was
 pub record IsPut (before after : List LooseSection) (number : ℕ) (pos : Pos) (bytes : List ℕ) : Type 0 where

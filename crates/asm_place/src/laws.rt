@@ -22,11 +22,13 @@ ghost use Rattle.asm_place.specs.JumpPlaces.{IsJump, IsJumpPut, JumpStands, jump
 ghost use Rattle.item_bytes.specs.Jumps.{jump_bytes, jump_distance};
 ghost use Rattle.x86_table.specs.Reads.{Reads};
 ghost use Rattle.item_bytes.specs.declared.jumps.Condition.{Condition as TheCondition};
-ghost use Rattle.asm_place.specs.Instructions.{behind_labels, instruction_written, instruction_of, next_item, next_offset, Grows, AreWithin, IsPut, StandsAt};
+ghost use Rattle.asm_place.specs.Instructions.{behind_labels, instruction_written, instruction_of, next_item, next_offset, Grows, IsPut, StandsAt};
+ghost use Rattle.section_laws.specs.Within.{AreWithin};
 
 use asm_frames::frame_directives_keep_all_else;
 use cfi_directives::{places_never_fall, procedures_are_sound};
 use jump_laws::{conditions_are_numbered, jump_codes_read};
+use section_laws::puts_stay_within;
 use x86_encode::fields_stand_apart;
 use x86_lookup::bare_codes_read;
 
@@ -47,6 +49,7 @@ pub fn placing_within()
         → AreWithin placed.sections }
 {
     frame_directives_keep_all_else();
+    puts_stay_within();
 }
 
 /// Statements that are placed as they are handed out are placed in order.
@@ -106,6 +109,7 @@ pub fn instruction_items()
         coded.bytes }
 {
     frame_directives_keep_all_else();
+    puts_stay_within();
     bare_codes_read();
 }
 
@@ -135,6 +139,7 @@ pub fn encoding_items()
         → InsnStands whole.sections (pos_at s.file s.line) s.tokens text placed }
 {
     frame_directives_keep_all_else();
+    puts_stay_within();
     fields_stand_apart();
 }
 
@@ -161,6 +166,7 @@ pub fn jump_items()
         → JumpStands whole.sections (pos_at s.file s.line) s.tokens text condition placed }
 {
     frame_directives_keep_all_else();
+    puts_stay_within();
 }
 
 /// The bytes of a direct jump, short or near, read as the jump that is written, over the distance
@@ -215,6 +221,7 @@ pub fn procedures_stand_in_order()
         → StandInOrder placed.sections placed.procedures }
 {
     frame_directives_keep_all_else();
+    puts_stay_within();
     places_stand();
     procedures_are_sound();
     places_never_fall();

@@ -11,7 +11,7 @@ use Rattle.asm_frags.specs.declared.fields.Field.{Field}
 use Rattle.asm_frags.specs.declared.fields.FieldSize.TheVariants.{Four}
 use Rattle.asm_frags.specs.Addresses.{changed_there, changed_at}
 use Rattle.asm_frags.specs.Fields.{data_role}
-use Rattle.asm_frags.specs.PlainBytes.{field_end, IsBeside, FieldsStand}
+use Rattle.asm_frags.specs.PlainBytes.{field_end, IsBeside}
 use Rattle.asm_frags.specs.Writing.{LooseItem, LooseSection, ends_in_run, new_item, item_behind, with_item, with_bytes, with_field, with_growing}
 use Rattle.asm_symbols.specs.SymbolMap.{SymbolMap}
 use Rattle.item_contents.specs.declared.contents.Content.TheVariants.{Run, Align, Growing}
@@ -26,9 +26,9 @@ use Rattle.eh_frame.specs.Pieces.{Piece, from_here, Tables, piece_put, pieces_pu
 use Rattle.eh_frame.specs.Entries.{behind_plain, behind_item, behind_piece, behind_pieces, entry_pieces}
 use Rattle.eh_frame.specs.Placing.{padded_log, entries_put}
 use Rattle.eh_frame.specs.Standing.{Extends, OneExtends, HasEnd}
-use Rattle.eh_frame.specs.Found.{IsWithin, IsReadyAt, IsReady, AreBetween, PlainAt, FieldAt, ItemAt, AdvanceAt, RunAt, NumberAt, number_field, advance_field, item_at, PieceStands, PiecesStand, EntriesStand}
+use Rattle.section_laws.specs.Within.{AreBetween, IsWithin, PutsStayWithin}
+use Rattle.eh_frame.specs.Found.{IsReadyAt, IsReady, PlainAt, FieldAt, ItemAt, AdvanceAt, RunAt, NumberAt, number_field, advance_field, item_at, PieceStands, PiecesStand, EntriesStand}
 use Rattle.eh_frame.proofs.ExtendLemmas.{set_there, one_on, pieces_extend, entries_extend}
-use Rattle.eh_frame.proofs.ApartLemmas.{stand_more, stand_last, range_last, range_none}
 use Rattle.eh_frame.proofs.EndLemmas.{run_if, run_reaches, item_reaches}
 
 get_seam : {X : Type 0} (xs : List X) (x : X) (ys : List X) → slice_get ((xs ++ x ∷ []) ++ ys) (length xs) ≡ Some x
@@ -39,14 +39,15 @@ get_seam (y ∷ xs) x ys = get_seam xs x ys
 
 -- the items that were there stand before what was put, and those behind it stand behind
 items_between : (now last : LooseSection) (count from to : ℕ) → Extends now last → length now.items ≡ count → All (λ item. item.offset ≤ from) now.items
-    → to ≤ length now.bytes → AreBetween last count from to
+    → to ≤ length now.bytes → AreBetween last.items count from to
 items_between now last count from to extends counted low far =
     let split : last.items ≡ now.items ++ extends.items = extends.all_items in
     let before : take count last.items ≡ now.items = ap (λ items. take count items) split ∙ ap (λ n. take n (now.items ++ extends.items)) (sym counted) ∙ take-append_seam now.items extends.items in
     let behind : drop count last.items ≡ extends.items = ap (λ items. drop count items) split ∙ ap (λ n. drop n (now.items ++ extends.items)) (sym counted) ∙ drop-append_seam now.items extends.items in
     record {
+      enough = omega (arith, counted, ap length split, length-append now.items extends.items);
       before = subst (All (λ (item : LooseItem). item.offset ≤ from)) (sym before) low;
-      behind = subst (All (λ (item : LooseItem). to ≤ item.offset)) (sym behind) (λ k d within. let past = extends.items_behind k d within in omega (arith, far, past));
+      after = subst (All (λ (item : LooseItem). to ≤ item.offset)) (sym behind) (λ k d within. let past = extends.items_behind k d within in omega (arith, far, past));
     }
 
 bytes_there : (before bytes after : List ℕ) → slice_range ((before ++ bytes) ++ after) (length before) (length before + length bytes) ≡ bytes
@@ -128,46 +129,21 @@ run_fields : (in_run : Bool) (pos : Pos) (held : LooseSection) → (run_if in_ru
 run_fields true pos held = refl
 run_fields false pos held = refl
 
--- nothing reaches beyond the plain bytes where more are put
-low_more : (held now : LooseSection) (bytes : List ℕ) (fields : List Field) → IsWithin held → now.bytes ≡ held.bytes ++ bytes
-    → All (λ item. item.offset ≤ length held.bytes) now.items → now.fields ≡ held.fields ++ fields → All (λ field. field_end field ≤ length now.bytes) fields → FieldsStand now.bytes 0 now.fields → IsWithin now
-low_more held now bytes fields low more items all reach apart =
-    let long : length now.bytes ≡ length held.bytes + length bytes = ap length more ∙ length-append held.bytes bytes in
-    record {
-      items = λ k d within. let before = items k d within in omega (arith, before, long);
-      fields = subst (All (λ (field : Field). field_end field ≤ length now.bytes)) (sym all)
-          (All-append (λ (field : Field). field_end field ≤ length now.bytes) held.fields fields
-          (λ k d within. let before = low.fields k d within in omega (arith, before, long)) reach);
-      apart = apart;
-    }
-
-one_low : (held : LooseSection) (item : LooseItem) → All (λ item. item.offset ≤ length held.bytes) held.items
-    → All (λ item. item.offset ≤ length held.bytes) (held.items ++ item_behind (length held.bytes) item ∷ [])
-one_low held item low =
-    All-append (λ (item : LooseItem). item.offset ≤ length held.bytes) held.items (item_behind (length held.bytes) item ∷ []) low
-    (All-cons (λ (item : LooseItem). item.offset ≤ length held.bytes) (item_behind (length held.bytes) item) []
-    (let same : length held.bytes ≤ length held.bytes = omega arith in same) (All-nil (λ (item : LooseItem). item.offset ≤ length held.bytes)))
-
 -- a change of a section keeps it ready, and what it puts is found in the end
 record Puts (map : SymbolMap) (section : ℕ) (pos : Pos) (put : Piece) (end : SectionEnd) (now : LooseSection) : Type 0 where
   ready : IsReadyAt (behind_piece put end) now
   found : (last : LooseSection) → Extends now last → PieceStands last section pos map end put
 
-plain_puts : (map : SymbolMap) (section : ℕ) (pos : Pos) (bytes : List ℕ) (end : SectionEnd) (held : LooseSection) → IsReadyAt end held
+plain_puts : PutsStayWithin → (map : SymbolMap) (section : ℕ) (pos : Pos) (bytes : List ℕ) (end : SectionEnd) (held : LooseSection) → IsReadyAt end held
     → Puts map section pos (piece.plain bytes) end (with_bytes pos bytes held)
-plain_puts map section pos bytes end held ready =
+plain_puts law map section pos bytes end held ready =
     let now : LooseSection = with_bytes pos bytes held in
     let reached : HasEnd (behind_plain (length bytes) end) now = run_reaches pos held now bytes (length bytes) end ready.reaches refl refl refl in
     let items : All (λ item. item.offset ≤ length held.bytes) now.items = run_low (ends_in_run held.items) pos held ready.low.items in
     record {
       ready = record {
         reaches = reached;
-        low = record {
-          items = λ k d within. let before = items k d within in omega (arith, before, length-append held.bytes bytes);
-          fields = subst (All (λ (field : Field). field_end field ≤ length now.bytes)) (sym (run_fields (ends_in_run held.items) pos held))
-              (λ k d within. let before = ready.low.fields k d within in omega (arith, before, length-append held.bytes bytes));
-          apart = subst (FieldsStand (held.bytes ++ bytes) 0) (sym (run_fields (ends_in_run held.items) pos held)) (stand_more held.bytes bytes 0 held.fields ready.low.apart);
-        };
+        low = law.bytes pos bytes held ready.low;
       };
       found = λ last extends. (
         run_at pos end held now last ready refl (let long = length-append held.bytes bytes in omega (arith, long)) extends,
@@ -176,10 +152,10 @@ plain_puts map section pos bytes end held ready =
       );
     }
 
-number_puts : (map : SymbolMap) (section : ℕ) (pos : Pos) (form : Form) (end : SectionEnd) (held : LooseSection) → IsReadyAt end held
+number_puts : PutsStayWithin → (map : SymbolMap) (section : ℕ) (pos : Pos) (form : Form) (end : SectionEnd) (held : LooseSection) → IsReadyAt end held
     → IsReadyAt (behind_plain 4 end) (with_field pos section Four data_role form held)
     × ((last : LooseSection) → Extends (with_field pos section Four data_role form held) last → NumberAt last section pos end form)
-number_puts map section pos form end held ready =
+number_puts law map section pos form end held ready =
     let now : LooseSection = with_field pos section Four data_role form held in
     let reached : HasEnd (behind_plain 4 end) now = run_reaches pos held now (replicate 4 0) 4 end ready.reaches refl refl refl in
     let items : All (λ item. item.offset ≤ length held.bytes) now.items = run_low (ends_in_run held.items) pos held ready.low.items in
@@ -199,11 +175,7 @@ number_puts map section pos form end held ready =
     ∙ ap (λ (offset : ℕ). record { pos = pos; item = (behind_plain 4 end).items; offset = offset; section = section; size = Four; role = data_role; in_item = false; form = form }) ready.reaches.bytes in (
       record {
         reaches = reached;
-        low = low_more held now (replicate 4 0) (made ∷ []) ready.low refl items refl
-            (All-cons (λ (field : Field). field_end field ≤ length now.bytes) made [] (omega (arith, long)) (All-nil (λ (field : Field). field_end field ≤ length now.bytes)))
-            (stand_last (held.bytes ++ replicate 4 0) 0 (length held.bytes) held.fields made (omega arith) ready.low.fields
-            (stand_more held.bytes (replicate 4 0) 0 held.fields ready.low.apart) (omega arith)
-            (record { within = omega (arith, long); zeros = range_last held.bytes (replicate 4 0) }));
+        low = law.field pos section Four data_role form held ready.low;
       },
       λ last extends. record {
         run = run_at pos end held now last ready refl (omega (arith, long)) extends;
@@ -212,10 +184,10 @@ number_puts map section pos form end held ready =
       },
     )
 
-advance_puts : (section : ℕ) (pos : Pos) (form : Form) (end : SectionEnd) (held : LooseSection) → IsReadyAt end held
+advance_puts : PutsStayWithin → (section : ℕ) (pos : Pos) (form : Form) (end : SectionEnd) (held : LooseSection) → IsReadyAt end held
     → IsReadyAt (behind_item end) (with_growing pos section growth.Advance None form held)
     × ((last : LooseSection) → Extends (with_growing pos section growth.Advance None form held) last → AdvanceAt last section pos end form)
-advance_puts section pos form end held ready =
+advance_puts law section pos form end held ready =
     let now : LooseSection = with_growing pos section growth.Advance None form held in
     let item : LooseItem = new_item pos (Growing (record { kind = growth.Advance; field = length held.fields })) in
     let grown : HasEnd (behind_item end) (with_item item held) = item_reaches held item end ready.reaches refl in
@@ -226,13 +198,7 @@ advance_puts section pos form end held ready =
     ∙ ap (λ (bytes : ℕ). advance_field section pos (record { items = end.items; bytes = bytes; in_run = false }) form) ready.reaches.bytes in (
       record {
         reaches = reached;
-        low = record {
-          items = one_low held item ready.low.items;
-          fields = All-append (λ (field : Field). field_end field ≤ length held.bytes) held.fields (made ∷ []) ready.low.fields
-              (All-cons (λ (field : Field). field_end field ≤ length held.bytes) made [] (omega arith) (All-nil (λ (field : Field). field_end field ≤ length held.bytes)));
-          apart = stand_last held.bytes 0 (length held.bytes) held.fields made (omega arith) ready.low.fields ready.low.apart (omega arith)
-              (record { within = omega arith; zeros = range_none held.bytes (length held.bytes) });
-        };
+        low = law.growing pos section growth.Advance None form held ready.low;
       },
       λ last extends. record {
         index = length held.fields;
@@ -242,14 +208,14 @@ advance_puts section pos form end held ready =
       },
     )
 
-padding_puts : (pos : Pos) (log : ℕ) (end : SectionEnd) (held : LooseSection) → IsReadyAt end held
+padding_puts : PutsStayWithin → (pos : Pos) (log : ℕ) (end : SectionEnd) (held : LooseSection) → IsReadyAt end held
     → IsReadyAt (behind_item end) (with_item (new_item pos (Align (zeros_up_to log))) held)
     × ((last : LooseSection) → Extends (with_item (new_item pos (Align (zeros_up_to log))) held) last → ItemAt last end.items (item_at pos end (Align (zeros_up_to log))))
-padding_puts pos log end held ready =
+padding_puts law pos log end held ready =
     let item : LooseItem = new_item pos (Align (zeros_up_to log)) in (
       record {
         reaches = item_reaches held item end ready.reaches refl;
-        low = record { items = one_low held item ready.low.items; fields = ready.low.fields; apart = ready.low.apart };
+        low = law.item item held ready.low;
       },
       λ last extends. subst (λ (bytes : ℕ). ItemAt last end.items (item_at pos (record { items = end.items; bytes = bytes; in_run = end.in_run }) (Align (zeros_up_to log)))) ready.reaches.bytes
           (item_found held (with_item item held) last (item_behind (length held.bytes) item) end.items ready.low refl refl ready.reaches.items (omega arith) extends),
@@ -285,26 +251,26 @@ changed_puts map section pos put sections end change step = by (slice_get sectio
         in_last last (now, at, extends) =
             subst (λ (found : Option LooseSection). IsSomeAnd found (λ held. PieceStands held section pos map end put)) (sym at) ((step held ready).found now extends)
 
-pub piece_puts : (section : ℕ) (pos : Pos) (put : Piece) (tables : Tables) (end : SectionEnd) → IsReady section tables.sections end
+pub piece_puts : PutsStayWithin → (section : ℕ) (pos : Pos) (put : Piece) (tables : Tables) (end : SectionEnd) → IsReady section tables.sections end
     → IsReady section (piece_put section pos put tables).sections (behind_piece put end)
     × ((last : List LooseSection) → OneExtends section (piece_put section pos put tables).sections last
     → IsSomeAnd (slice_get last section) (λ held. PieceStands held section pos tables.symbols end put))
-piece_puts section pos (piece.plain bytes) tables end =
-    changed_puts tables.symbols section pos (piece.plain bytes) tables.sections end (with_bytes pos bytes) (λ held. plain_puts tables.symbols section pos bytes end held)
-piece_puts section pos (piece.number distance) tables end =
+piece_puts law section pos (piece.plain bytes) tables end =
+    changed_puts tables.symbols section pos (piece.plain bytes) tables.sections end (with_bytes pos bytes) (λ held. plain_puts law tables.symbols section pos bytes end held)
+piece_puts law section pos (piece.number distance) tables end =
     changed_puts tables.symbols section pos (piece.number distance) tables.sections end (with_field pos section Four data_role (distance_form tables.symbols distance))
-    (λ held ready. let puts = number_puts tables.symbols section pos (distance_form tables.symbols distance) end held ready in
+    (λ held ready. let puts = number_puts law tables.symbols section pos (distance_form tables.symbols distance) end held ready in
     record { ready = puts.0; found = puts.1 })
-piece_puts section pos (piece.pointer place) tables end =
+piece_puts law section pos (piece.pointer place) tables end =
     changed_puts tables.symbols section pos (piece.pointer place) tables.sections end (with_field pos section Four data_role (distance_form tables.symbols (from_here place)))
-    (λ held ready. let puts = number_puts tables.symbols section pos (distance_form tables.symbols (from_here place)) end held ready in
+    (λ held ready. let puts = number_puts law tables.symbols section pos (distance_form tables.symbols (from_here place)) end held ready in
     record { ready = puts.0; found = puts.1 })
-piece_puts section pos (piece.advance distance) tables end =
+piece_puts law section pos (piece.advance distance) tables end =
     changed_puts tables.symbols section pos (piece.advance distance) tables.sections end (with_growing pos section growth.Advance None (distance_form tables.symbols distance))
-    (λ held ready. let puts = advance_puts section pos (distance_form tables.symbols distance) end held ready in record { ready = puts.0; found = puts.1 })
-piece_puts section pos (piece.padding log) tables end =
+    (λ held ready. let puts = advance_puts law section pos (distance_form tables.symbols distance) end held ready in record { ready = puts.0; found = puts.1 })
+piece_puts law section pos (piece.padding log) tables end =
     changed_puts tables.symbols section pos (piece.padding log) tables.sections end (with_item (new_item pos (Align (zeros_up_to log))))
-    (λ held ready. let puts = padding_puts pos log end held ready in record { ready = puts.0; found = puts.1 })
+    (λ held ready. let puts = padding_puts law pos log end held ready in record { ready = puts.0; found = puts.1 })
 
 still_there : (section : ℕ) (sections last : List LooseSection) (end : SectionEnd) → IsReady section sections end → OneExtends section sections last
     → IsSomeAnd (slice_get last section) (λ held. Unit {0})
@@ -317,37 +283,37 @@ still_there section sections last end ready extends = by (slice_get sections sec
         at : (now : LooseSection) × (slice_get last section ≡ Some now) × Extends held now → IsSomeAnd (slice_get last section) (λ held. Unit {0})
         at (now, there, more) = subst (λ (found : Option LooseSection). IsSomeAnd found (λ held. Unit {0})) (sym there) tt
 
-pub pieces_ready : (section : ℕ) (pos : Pos) (pieces : List Piece) (tables : Tables) (end : SectionEnd) → IsReady section tables.sections end
+pub pieces_ready : PutsStayWithin → (section : ℕ) (pos : Pos) (pieces : List Piece) (tables : Tables) (end : SectionEnd) → IsReady section tables.sections end
     → IsReady section (pieces_put section pos pieces tables).sections (behind_pieces pieces end)
-pieces_ready section pos [] tables end ready = ready
-pieces_ready section pos (put ∷ pieces) tables end ready =
-    pieces_ready section pos pieces (piece_put section pos put tables) (behind_piece put end) (piece_puts section pos put tables end ready).0
+pieces_ready law section pos [] tables end ready = ready
+pieces_ready law section pos (put ∷ pieces) tables end ready =
+    pieces_ready law section pos pieces (piece_put section pos put tables) (behind_piece put end) (piece_puts law section pos put tables end ready).0
 
-pub pieces_found : (section : ℕ) (pos : Pos) (pieces : List Piece) (tables : Tables) (end : SectionEnd) (last : List LooseSection) → IsReady section tables.sections end
+pub pieces_found : PutsStayWithin → (section : ℕ) (pos : Pos) (pieces : List Piece) (tables : Tables) (end : SectionEnd) (last : List LooseSection) → IsReady section tables.sections end
     → OneExtends section (pieces_put section pos pieces tables).sections last
     → IsSomeAnd (slice_get last section) (λ held. PiecesStand held section pos end tables pieces)
-pieces_found section pos [] tables end last ready extends = still_there section tables.sections last end ready extends
-pieces_found section pos (put ∷ pieces) tables end last ready extends =
-    let puts = piece_puts section pos put tables end ready in
+pieces_found law section pos [] tables end last ready extends = still_there section tables.sections last end ready extends
+pieces_found law section pos (put ∷ pieces) tables end last ready extends =
+    let puts = piece_puts law section pos put tables end ready in
     and_both (λ held. PieceStands held section pos tables.symbols end put)
     (λ held. PiecesStand held section pos (behind_piece put end) (piece_put section pos put tables) pieces) (slice_get last section)
     (puts.1 last (one_on section (piece_put section pos put tables).sections (pieces_put section pos pieces (piece_put section pos put tables)).sections last
     (pieces_extend section pos pieces (piece_put section pos put tables)) extends))
-    (pieces_found section pos pieces (piece_put section pos put tables) (behind_piece put end) last puts.0 extends)
+    (pieces_found law section pos pieces (piece_put section pos put tables) (behind_piece put end) last puts.0 extends)
 
-pub entries_found : (section : ℕ) (common : SectionPlace) (end : SectionEnd) (frames : List Frame) (tables : Tables) (last : List LooseSection)
+pub entries_found : PutsStayWithin → (section : ℕ) (common : SectionPlace) (end : SectionEnd) (frames : List Frame) (tables : Tables) (last : List LooseSection)
     → IsReady section tables.sections end → OneExtends section (entries_put section common end frames tables).sections last
     → IsSomeAnd (slice_get last section) (λ held. EntriesStand held section common end frames tables)
-entries_found section common end [] tables last ready extends = still_there section tables.sections last end ready extends
-entries_found section common end (frame ∷ frames) tables last ready extends =
+entries_found law section common end [] tables last ready extends = still_there section tables.sections last end ready extends
+entries_found law section common end (frame ∷ frames) tables last ready extends =
     let pieces : List Piece = entry_pieces section end common (padded_log frames) frame in
     let put : Tables = pieces_put section frame.pos pieces tables in
     and_both (λ held. PiecesStand held section frame.pos end tables pieces)
     (λ held. EntriesStand held section common (behind_pieces pieces end) frames put) (slice_get last section)
-    (pieces_found section frame.pos pieces tables end last ready
+    (pieces_found law section frame.pos pieces tables end last ready
     (one_on section put.sections (entries_put section common (behind_pieces pieces end) frames put).sections last
     (entries_extend section common (behind_pieces pieces end) frames put) extends))
-    (entries_found section common (behind_pieces pieces end) frames put last (pieces_ready section frame.pos pieces tables end ready) extends)
+    (entries_found law section common (behind_pieces pieces end) frames put last (pieces_ready law section frame.pos pieces tables end ready) extends)
 
 -- the section stays within its bytes
 within_of : (section : ℕ) (sections : List LooseSection) (end : SectionEnd) → IsReady section sections end → IsSomeAnd (slice_get sections section) IsWithin
@@ -357,9 +323,9 @@ within_of section sections end = by (slice_get sections section)
     by None ready = absurd ready
     by (Some held) ready = ready.low
 
-pub entries_within : (section : ℕ) (common : SectionPlace) (end : SectionEnd) (frames : List Frame) (tables : Tables) → IsReady section tables.sections end
+pub entries_within : PutsStayWithin → (section : ℕ) (common : SectionPlace) (end : SectionEnd) (frames : List Frame) (tables : Tables) → IsReady section tables.sections end
     → IsSomeAnd (slice_get (entries_put section common end frames tables).sections section) IsWithin
-entries_within section common end [] tables ready = within_of section tables.sections end ready
-entries_within section common end (frame ∷ frames) tables ready =
+entries_within law section common end [] tables ready = within_of section tables.sections end ready
+entries_within law section common end (frame ∷ frames) tables ready =
     let pieces : List Piece = entry_pieces section end common (padded_log frames) frame in
-    entries_within section common (behind_pieces pieces end) frames (pieces_put section frame.pos pieces tables) (pieces_ready section frame.pos pieces tables end ready)
+    entries_within law section common (behind_pieces pieces end) frames (pieces_put section frame.pos pieces tables) (pieces_ready law section frame.pos pieces tables end ready)

@@ -23,7 +23,8 @@ use Rattle.eh_frame.specs.Pieces.{Piece, Tables, tables_of, from_here, piece_put
 use Rattle.eh_frame.specs.Entries.{behind_plain, behind_pieces, end_place, advance_piece, op_pieces, counted_pieces, entry_pieces}
 use Rattle.eh_frame.specs.Placing.{padded_log, entries_put, run_end, no_end, end_of, table_put, new_table, placed}
 use Rattle.eh_frame.specs.Standing.{OneExtends, HasEnd, Reaches}
-use Rattle.eh_frame.specs.Found.{IsWithin, IsReadyAt, IsReady, IsPlaced}
+use Rattle.section_laws.specs.Within.{IsWithin, PutsStayWithin}
+use Rattle.eh_frame.specs.Found.{IsReadyAt, IsReady, IsPlaced}
 use Rattle.eh_frame.specs.StandingPlaces.{HoldsItems, FrameStands, LabelStands, GetsStanding}
 use Rattle.eh_frame.proofs.ExtendLemmas.{one_same, one_on, entries_extend, table_extends}
 use Rattle.eh_frame.proofs.EndLemmas.{piece_reaches, pieces_reach}
@@ -158,16 +159,16 @@ frames_grow section before after extends frame stands = record {
       (λ placed has. items_grow section before after extends frame.section placed.place.item has) frame.ops stands.ops;
 }
 
-table_stands : (section : ℕ) (pos : Pos) (frames : List Frame) (tables : Tables) (held : LooseSection) → slice_get tables.sections section ≡ Some held → IsWithin held
+table_stands : PutsStayWithin → (section : ℕ) (pos : Pos) (frames : List Frame) (tables : Tables) (held : LooseSection) → slice_get tables.sections section ≡ Some held → IsWithin held
     → All (FrameStands tables.sections) frames → GetsStanding (table_put section pos frames tables).sections tables.symbols (table_put section pos frames tables).symbols
-table_stands section pos frames tables held is low stand =
+table_stands law section pos frames tables held is low stand =
     let start : SectionEnd = record { items = length held.items; bytes = length held.bytes; in_run = ends_in_run held.items } in
     let ready : IsReady section tables.sections start =
     subst (λ (found : Option LooseSection). IsSomeAnd found (IsReadyAt start)) (sym is) (record { reaches = record { items = refl; bytes = refl; in_run = refl }; low = low }) in
     let begun : Reaches section tables.sections start =
     subst (λ (found : Option LooseSection). IsSomeAnd found (HasEnd start)) (sym is) (record { items = refl; bytes = refl; in_run = refl }) in
     let put : Tables = piece_put section pos (piece.plain common_bytes) tables in
-    let puts = piece_puts section pos (piece.plain common_bytes) tables start ready in
+    let puts = piece_puts law section pos (piece.plain common_bytes) tables start ready in
     let ended : end_of section put.sections ≡ behind_plain (length common_bytes) start = end_is section put.sections (behind_plain (length common_bytes) start) puts.0 refl in
     let reach : Reaches section put.sections (end_of section put.sections) =
     subst (Reaches section put.sections) (sym ended) (piece_reaches section pos (piece.plain common_bytes) tables start begun) in
@@ -181,7 +182,7 @@ table_stands section pos frames tables held is low stand =
 of_all : (xs : List LooseSection) (i : ℕ) (x : LooseSection) → slice_get xs i ≡ Some x → All IsWithin xs → IsWithin x
 of_all xs i x there low = subst IsWithin (get_or_from_slice_get xs i x x there) (low i x (slice_get_within xs i x there))
 
-module _ (frame : Frame) (frames : List Frame) (tables after : Tables) (low : All IsWithin tables.sections) (stand : All (FrameStands tables.sections) (frame ∷ frames)) where
+module _ (law : PutsStayWithin) (frame : Frame) (frames : List Frame) (tables after : Tables) (low : All IsWithin tables.sections) (stand : All (FrameStands tables.sections) (frame ∷ frames)) where
   -- the section is there before the table is put, since it is there then
   section_there : (section : ℕ) (sections : List LooseSection) (found : Option LooseSection) (P : LooseSection → Type 0) → slice_get after.sections section ≡ found
       → IsSomeAnd found P → length after.sections ≡ length sections → slice_get sections section ≡ Some (get_or sections section new_table)
@@ -197,7 +198,7 @@ module _ (frame : Frame) (frames : List Frame) (tables after : Tables) (low : Al
       let there = section_there put.section put.first.sections (slice_get after.sections put.section) _ refl put.stands long in
       subst (λ (t : Tables). GetsStanding t.sections tables.symbols t.symbols) (sym put.put)
       (subst (λ (map : SymbolMap). GetsStanding (table_put put.section frame.pos (frame ∷ frames) put.first).sections map (table_put put.section frame.pos (frame ∷ frames) put.first).symbols) same
-      (table_stands put.section frame.pos (frame ∷ frames) put.first (get_or put.first.sections put.section new_table) there
+      (table_stands law put.section frame.pos (frame ∷ frames) put.first (get_or put.first.sections put.section new_table) there
       (of_all put.first.sections put.section _ there within) all))
 
   more_items : (number items : ℕ) → HoldsItems tables.sections number items → HoldsItems (tables.sections ++ new_table ∷ []) number items
@@ -224,6 +225,6 @@ module _ (frame : Frame) (frames : List Frame) (tables after : Tables) (low : Al
   ]
 
 -- where the places of procedures stand, so do those of labels
-pub labels_stand : (frame : Frame) (frames : List Frame) (tables after : Tables) → All IsWithin tables.sections → All (FrameStands tables.sections) (frame ∷ frames)
+pub labels_stand : PutsStayWithin → (frame : Frame) (frames : List Frame) (tables after : Tables) → All IsWithin tables.sections → All (FrameStands tables.sections) (frame ∷ frames)
     → placed (frame ∷ frames) tables ≡ Ok after → GetsStanding after.sections tables.symbols after.symbols
-labels_stand frame frames tables after low stand is = labels_by frame frames tables after low stand (is_placed frame frames tables after low is)
+labels_stand law frame frames tables after low stand is = labels_by law frame frames tables after low stand (is_placed law frame frames tables after low is)

@@ -7,7 +7,6 @@ mod EndLemmas
 mod NamedPlaces
 mod RefusedLemmas
 mod WorkedLemmas
-mod ApartLemmas
 mod FoundLemmas
 mod TableLemmas
 mod AddedNames

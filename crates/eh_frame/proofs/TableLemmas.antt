@@ -20,7 +20,8 @@ use Rattle.eh_frame.specs.Pieces.{Tables, tables_of, piece_put, Takes}
 use Rattle.eh_frame.specs.Entries.{behind_plain, end_place}
 use Rattle.eh_frame.specs.Placing.{run_end, no_end, end_of, table_put, new_table, placed_there, placed_in, placed}
 use Rattle.eh_frame.specs.Standing.{Extends, OneExtends}
-use Rattle.eh_frame.specs.Found.{IsWithin, IsReadyAt, IsReady, PlainAt, RunAt, EntriesStand, TableStands, IsPlaced}
+use Rattle.section_laws.specs.Within.{IsWithin, PutsStayWithin}
+use Rattle.eh_frame.specs.Found.{IsReadyAt, IsReady, PlainAt, RunAt, EntriesStand, TableStands, IsPlaced}
 use Rattle.eh_frame.proofs.ExtendLemmas.{extends_same, one_same, entries_extend, table_extends}
 use Rattle.eh_frame.proofs.FoundLemmas.{piece_puts, entries_found, entries_within}
 
@@ -44,14 +45,14 @@ both_made : {X : Type 0} (P Q R : X → Type 0) (o : Option X) → ((x : X) → 
 both_made P Q R None make p q = absurd p
 both_made P Q R (Some x) make p q = make x p q
 
-pub table_found : (section : ℕ) (pos : Pos) (frames : List Frame) (tables : Tables) (held : LooseSection) → slice_get tables.sections section ≡ Some held → IsWithin held
+pub table_found : PutsStayWithin → (section : ℕ) (pos : Pos) (frames : List Frame) (tables : Tables) (held : LooseSection) → slice_get tables.sections section ≡ Some held → IsWithin held
     → IsSomeAnd (slice_get (table_put section pos frames tables).sections section) (λ held. TableStands held section pos frames tables × IsWithin held)
-table_found section pos frames tables held is low =
+table_found law section pos frames tables held is low =
     let start : SectionEnd = record { items = length held.items; bytes = length held.bytes; in_run = ends_in_run held.items } in
     let ready : IsReady section tables.sections start =
     subst (λ (found : Option LooseSection). IsSomeAnd found (IsReadyAt start)) (sym is) (record { reaches = record { items = refl; bytes = refl; in_run = refl }; low = low }) in
     let put : Tables = piece_put section pos (piece.plain common_bytes) tables in
-    let puts = piece_puts section pos (piece.plain common_bytes) tables start ready in
+    let puts = piece_puts law section pos (piece.plain common_bytes) tables start ready in
     let ended : end_of section put.sections ≡ behind_plain (length common_bytes) start = end_is section put.sections (behind_plain (length common_bytes) start) puts.0 refl in
     let began : end_of section tables.sections ≡ run_end held = end_there section tables.sections held is in
     let behind : (end_of section put.sections).items ≡ (behind_plain (length common_bytes) start).items = ap (λ (end : SectionEnd). end.items) ended in
@@ -74,9 +75,9 @@ table_found section pos frames tables held is low =
     (both_made (λ held. EntriesStand held section (end_place section (end_of section tables.sections)) (end_of section put.sections) frames put) IsWithin
     (λ held. EntriesStand held section (end_place section (end_of section tables.sections)) (end_of section put.sections) frames put × IsWithin held) (slice_get all section)
     (λ last entries within. (entries, within))
-    (entries_found section (end_place section (end_of section tables.sections)) (end_of section put.sections) frames put all
+    (entries_found law section (end_place section (end_of section tables.sections)) (end_of section put.sections) frames put all
     (subst (IsReady section put.sections) (sym ended) puts.0) (one_same section all))
-    (entries_within section (end_place section (end_of section tables.sections)) (end_of section put.sections) frames put
+    (entries_within law section (end_place section (end_of section tables.sections)) (end_of section put.sections) frames put
     (subst (IsReady section put.sections) (sym ended) puts.0)))
 
 get_last : (xs : List LooseSection) (x : LooseSection) → slice_get (xs ++ x ∷ []) (length xs) ≡ Some x
@@ -88,6 +89,7 @@ new_low = record {
   items = All-nil (λ (item : LooseItem). item.offset ≤ 0);
   fields = All-nil (λ (field : Field). field_end field ≤ 0);
   apart = tt;
+  counted = All-nil _;
 }
 
 pub get_first : (xs ys : List LooseSection) (i : ℕ) (x : LooseSection) → slice_get xs i ≡ Some x → slice_get (xs ++ ys) i ≡ Some x
@@ -137,7 +139,7 @@ takes_at section sections held there filled = record {
   filled = subst (λ (found : Option LooseSection). IsSomeAnd found (λ held. takes_zeros_alone held ≡ false)) (sym there) filled;
 }
 
-module _ (frame : Frame) (frames : List Frame) (tables after : Tables) (low : All IsWithin tables.sections) where
+module _ (law : PutsStayWithin) (frame : Frame) (frames : List Frame) (tables after : Tables) (low : All IsWithin tables.sections) where
   -- where it takes more than zeros, the section that is there
   found_by : (section : ℕ) (held : LooseSection) (zeros : Bool) → section_number (codes ".eh_frame") tables.sections ≡ Some section
       → slice_get tables.sections section ≡ Some held → takes_zeros_alone held ≡ zeros
@@ -149,7 +151,7 @@ module _ (frame : Frame) (frames : List Frame) (tables after : Tables) (low : Al
       let within : section < length tables.sections = slice_get_within tables.sections section held there in
       let all : List LooseSection = (table_put section frame.pos (frame ∷ frames) tables).sections in
       let found = parts (λ held. TableStands held section frame.pos (frame ∷ frames) tables) IsWithin (slice_get all section)
-      (table_found section frame.pos (frame ∷ frames) tables held there
+      (table_found law section frame.pos (frame ∷ frames) tables held there
       (subst IsWithin (get_or_from_slice_get tables.sections section held held there) (low section held within))) in
       let extends : OneExtends section tables.sections all = table_extends section frame.pos (frame ∷ frames) tables in
       record {
@@ -178,7 +180,7 @@ module _ (frame : Frame) (frames : List Frame) (tables after : Tables) (low : Al
       let section : ℕ = length tables.sections in
       let all : List LooseSection = (table_put section frame.pos (frame ∷ frames) first).sections in
       let found = parts (λ held. TableStands held section frame.pos (frame ∷ frames) first) IsWithin (slice_get all section)
-      (table_found section frame.pos (frame ∷ frames) first new_table (get_last tables.sections new_table) new_low) in
+      (table_found law section frame.pos (frame ∷ frames) first new_table (get_last tables.sections new_table) new_low) in
       let extends : OneExtends section first.sections all = table_extends section frame.pos (frame ∷ frames) first in
       let low_first : All IsWithin first.sections =
       All-append IsWithin tables.sections (new_table ∷ []) low (All-cons IsWithin new_table [] new_low (All-nil IsWithin)) in

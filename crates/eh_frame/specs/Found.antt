@@ -1,13 +1,14 @@
 -- Where each piece stands in the section in the end, when all is put.
-use Rattle.std.specs.Prelude.{◌≡◌, ℕ, ◌+◌, ◌≤◌, ◌⊎◌, true, false, List, [], ◌∷◌, ◌++◌, codes, length, take, drop, All, IsSomeAnd, None, Some, slice_get, slice_range}
+use Rattle.std.specs.Prelude.{◌≡◌, ℕ, ◌+◌, ◌≤◌, ◌⊎◌, true, false, List, [], ◌∷◌, ◌++◌, codes, length, take, All, IsSomeAnd, None, Some, slice_get, slice_range}
 use Rattle.asm_base.specs.declared.positions.Pos.{Pos}
 use Rattle.asm_expr.specs.Forms.{Form}
 use Rattle.asm_frags.specs.declared.fields.Field.{Field}
 use Rattle.asm_frags.specs.declared.fields.FieldSize.TheVariants.{Four}
 use Rattle.asm_frags.specs.Fields.{data_role, growth_role}
-use Rattle.asm_frags.specs.PlainBytes.{field_end, IsBeside, FieldsStand}
+use Rattle.asm_frags.specs.PlainBytes.{field_end, IsBeside}
 use Rattle.asm_frags.specs.SectionOf.{section_number}
 use Rattle.asm_frags.specs.Writing.{LooseItem, LooseSection}
+use Rattle.section_laws.specs.Within.{AreBetween, IsWithin}
 use Rattle.asm_symbols.specs.SymbolMap.{SymbolMap}
 use Rattle.cfi_directives.specs.declared.frames.Frame.{Frame}
 use Rattle.asm_base.specs.declared.places.SectionPlace.{SectionPlace}
@@ -23,12 +24,6 @@ use Rattle.eh_frame.specs.Entries.{behind_plain, behind_piece, behind_pieces, en
 use Rattle.eh_frame.specs.Placing.{padded_log, end_of, table_put, new_table}
 use Rattle.eh_frame.specs.Standing.{Extends, HasEnd}
 
--- no item and no field reaches beyond the plain bytes, and the fields stand in order and apart, over zeros
-pub record IsWithin (held : LooseSection) : Type 0 where
-  pub items : All (λ item. item.offset ≤ length held.bytes) held.items
-  pub fields : All (λ field. field_end field ≤ length held.bytes) held.fields
-  pub apart : FieldsStand held.bytes 0 held.fields
-
 -- the section has this end too
 pub record IsReadyAt (end : SectionEnd) (held : LooseSection) : Type 0 where
   pub reaches : HasEnd end held
@@ -39,22 +34,17 @@ abbrev pub IsReady : ℕ → List LooseSection → SectionEnd → Type 0
 IsReady section sections end = IsSomeAnd (slice_get sections section) (IsReadyAt end)
 
 module _ (held : LooseSection) where
-  -- so many items stand before these plain bytes, from the one offset to the other, and the other items behind them
-  pub record AreBetween (count from to : ℕ) : Type 0 where
-    pub before : All (λ item. item.offset ≤ from) (take count held.items)
-    pub behind : All (λ item. to ≤ item.offset) (drop count held.items)
-
   -- the bytes stand at this offset behind so many items, beside all fields
   pub record PlainAt (count offset : ℕ) (bytes : List ℕ) : Type 0 where
     pub there : slice_range held.bytes offset (offset + length bytes) ≡ bytes
     pub within : offset + length bytes ≤ length held.bytes
     pub apart : All (IsBeside offset (offset + length bytes)) held.fields
-    pub between : AreBetween count offset (offset + length bytes)
+    pub between : AreBetween held.items count offset (offset + length bytes)
 
   -- the field has this index, and stands behind as many items as it says
   pub record FieldAt (index : ℕ) (field : Field) : Type 0 where
     pub there : slice_get held.fields index ≡ Some field
-    pub between : AreBetween field.item field.offset (field_end field)
+    pub between : AreBetween held.items field.item field.offset (field_end field)
 
   -- the item has this index, and no plain byte behind it stands before it
   pub record ItemAt (index : ℕ) (item : LooseItem) : Type 0 where

@@ -9,7 +9,7 @@ use Rattle.cfi_directives.specs.declared.frames.Frame.{Frame}
 use Rattle.cfi_directives.specs.Meant.{stop_of}
 use Rattle.eh_frame.specs.Pieces.{Tables}
 use Rattle.eh_frame.specs.Placing.{placed}
-use Rattle.eh_frame.specs.Found.{IsWithin}
+use Rattle.section_laws.specs.Within.{IsWithin}
 
 -- the section of this number is there, with at least so many items
 pub record HoldsItems (sections : List LooseSection) (number items : ℕ) : Type 0 where

@@ -2,7 +2,8 @@
 
 ghost use Rattle.std.specs.Prelude.{◌≡◌, ◌↔◌, ℕ, List, [], ◌∷◌, All, IsSomeAnd, Ok, Err, slice_get};
 ghost use Rattle.asm_frags.specs.Writing.{LooseSection};
-ghost use Rattle.eh_frame.specs.Found.{IsWithin, IsPlaced, IsReady, PiecesStand};
+ghost use Rattle.section_laws.specs.Within.{IsWithin};
+ghost use Rattle.eh_frame.specs.Found.{IsPlaced, IsReady, PiecesStand};
 ghost use Rattle.asm_base.specs.declared.positions.Pos.{Pos as PosValue};
 ghost use Rattle.asm_base.specs.declared.causes.FragCause.TheVariants.{BadSection};
 ghost use Rattle.asm_symbols.specs.Interning.{number_of};
@@ -25,6 +26,7 @@ ghost use Rattle.eh_frame.specs.Reading.{EntriesRead, RowsAreMeant};
 
 use cfi_rows::entries_read_back;
 use item_bytes::advances_hold_their_distance;
+use section_laws::puts_stay_within;
 
 /// Wherever places stand, and whatever sizes layout gives to the advances and the padding, if each advance holds its
 /// distance: the bytes of the common entry and of an entry read, at each place, as the row that the directives of the
@@ -106,7 +108,9 @@ pub fn pieces_are_found()
     ensures table { (frame : FrameValue) (frames : List FrameValue) (tables after : Tables)
         → All IsWithin tables.sections → placed (frame ∷ frames) tables ≡ Ok after
         → IsPlaced frame frames tables after }
-{}
+{
+    puts_stay_within();
+}
 
 /// A table brings at most one section, `.eh_frame`, and symbols whose names take no bytes; sections keep their
 /// names, and files stay.
@@ -124,4 +128,6 @@ pub fn distances_have_two_terms()
 /// of a procedure, or of the table itself.
 pub fn labels_stand()
     ensures { LabelsStand }
-{}
+{
+    puts_stay_within();
+}

@@ -15,7 +15,7 @@ use Rattle.asm_relax.specs.Layout.{laid_from}
 use Rattle.asm_relax.specs.Placing.{placed_from, placed_section, shift_of}
 use Rattle.asm_relax.specs.Settling.{LaidItem, LaidSections, layout_of}
 use Rattle.asm_base.specs.declared.places.SectionPlace.{SectionPlace}
-use Rattle.eh_frame.specs.Found.{IsWithin}
+use Rattle.section_laws.specs.Within.{IsWithin}
 use Rattle.eh_frame.specs.StandingPlaces.{HoldsItems}
 use Rattle.elf_object.specs.Places.{moved}
 use Rattle.frame_laws.specs.PlacedTables.{IsSmall}

@@ -24,7 +24,8 @@ use Rattle.elf_object.specs.Image.{image_of}
 use Rattle.elf_object.specs.Places.{section_offset, moved, BytesStand, ValuesStand, IsFiled, IsBetween, ItemsStand}
 use Rattle.eh_frame.specs.declared.ends.SectionEnd.{SectionEnd}
 use Rattle.eh_frame.specs.Entries.{end_place}
-use Rattle.eh_frame.specs.Found.{IsWithin, AreBetween, PlainAt, FieldAt, ItemAt, RunAt, item_at}
+use Rattle.section_laws.specs.Within.{IsWithin, AreBetween}
+use Rattle.eh_frame.specs.Found.{PlainAt, FieldAt, ItemAt, RunAt, item_at}
 use Rattle.frame_laws.specs.TableReads.{place_address}
 use Rattle.frame_laws.proofs.Lists.{all_there}
 use Rattle.frame_laws.proofs.Shifts.{shift_next}
@@ -111,10 +112,10 @@ module _ (facts : FileFacts) (symbols : SymbolMap) (sections : List LooseSection
       ap (λ c. moved kept.items c end.bytes) one ∙ omega (arith, moves, none)
 
   -- the first items stand before these bytes and the others behind them, where they are laid out too
-  between_kept : (count from to : ℕ) → AreBetween held count from to → IsBetween kept.items count from to
+  between_kept : (count from to : ℕ) → AreBetween held.items count from to → IsBetween kept.items count from to
   between_kept count from to between = record {
     before = facts.layouts.first from count held.items own between.before;
-    behind = facts.layouts.others to count held.items own between.behind;
+    behind = facts.layouts.others to count held.items own between.after;
   }
 
   -- plain bytes stand in the file

@@ -19,7 +19,7 @@ use Rattle.elf_object.specs.Image.{image_of}
 use Rattle.elf_object.specs.Places.{section_offset, moved}
 use Rattle.asm_base.specs.declared.places.SectionPlace.{SectionPlace}
 use Rattle.eh_frame.specs.declared.ends.SectionEnd.{SectionEnd}
-use Rattle.eh_frame.specs.Found.{IsWithin}
+use Rattle.section_laws.specs.Within.{IsWithin}
 use Rattle.eh_frame.specs.StandingPlaces.{HoldsItems}
 use Rattle.frame_laws.specs.HeldDistances.{DistancesAreHeld, FormsAreExpanded, PlacesAreApart}
 use Rattle.frame_laws.specs.PlacedTables.{SymbolHolds, IsSmall}

@@ -27,7 +27,8 @@ use Rattle.cfi_rows.specs.Entries.{common_bytes}
 use Rattle.cfi_rows.specs.Written.{written}
 use Rattle.eh_frame.specs.declared.ends.SectionEnd.{SectionEnd}
 use Rattle.eh_frame.specs.Entries.{behind_pieces, end_place, entry_pieces}
-use Rattle.eh_frame.specs.Found.{IsWithin, EntriesStand, TableStands, IsPlaced}
+use Rattle.section_laws.specs.Within.{IsWithin}
+use Rattle.eh_frame.specs.Found.{EntriesStand, TableStands, IsPlaced}
 use Rattle.eh_frame.specs.Labels.{NamesPlace, PlacesAreLabels}
 use Rattle.eh_frame.specs.Marks.{HaveTwoTerms}
 use Rattle.eh_frame.specs.Pieces.{Piece, plain, Tables, piece_put, pieces_put, Takes}

@@ -13,7 +13,7 @@ use Rattle.asm_base.specs.declared.places.Place.{Place}
 use Rattle.cfi_directives.specs.Meant.{stop_of}
 use Rattle.cfi_directives.specs.Order.{IsInOrder}
 use Rattle.cfi_directives.specs.Sound.{IsWhole}
-use Rattle.eh_frame.specs.Found.{IsWithin}
+use Rattle.section_laws.specs.Within.{IsWithin}
 use Rattle.eh_frame.specs.Labels.{PlacesAreLabels}
 use Rattle.eh_frame.specs.Pieces.{Tables}
 use Rattle.eh_frame.specs.StandingPlaces.{FrameStands, HoldsItems}

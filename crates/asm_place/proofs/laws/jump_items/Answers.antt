@@ -2,4 +2,4 @@ use Rattle.asm_place.proofs.JumpLaws.{jump_there}
 use Rattle.asm_place.proofs.laws.jump_items.Goals as goal
 
 pub returns : goal.returns
-returns c = jump_there c.frame_directives_keep_all_else.ensures
+returns c = jump_there c.frame_directives_keep_all_else.ensures c.puts_stay_within.ensures

@@ -4,10 +4,7 @@ use Rattle.std.specs.Prelude.{slice_range}
 use Rattle.std.proofs.lemmas.List.{take-append-le, drop-append-le}
 use Rattle.std.proofs.lemmas.List.Elements.{All-head, All-tail}
 use Rattle.std.proofs.Math.Seq.{drop-append_seam}
-use Rattle.asm_frags.specs.declared.fields.FieldSize.{FieldSize}
-use Rattle.asm_frags.specs.declared.fields.FieldSize.TheVariants.{One, Two, Four, Eight}
 use Rattle.asm_frags.specs.declared.fields.Field.{Field}
-use Rattle.asm_frags.specs.Fields.{width}
 use Rattle.asm_frags.specs.PlainBytes.{covered, field_end, IsBlank, FieldsStand}
 
 range_more : (xs ys : List ℕ) (from to : ℕ) → from ≤ to → to ≤ length xs → slice_range (xs ++ ys) from to ≡ slice_range xs from to
@@ -27,7 +24,7 @@ pub stand_more : (bytes more : List ℕ) (from : ℕ) (fields : List Field) → 
 stand_more bytes more from [] stand = tt
 stand_more bytes more from (field ∷ fields) stand = (stand.0, blank_more bytes more field stand.1, stand_more bytes more (field_end field) fields stand.2)
 
--- more fields, which stand behind the others
+-- more fields, which stand after the others
 pub stand_both : (bytes : List ℕ) (from end : ℕ) (fields more : List Field) → from ≤ end → All (λ field. field_end field ≤ end) fields
     → FieldsStand bytes from fields
     → ((at : ℕ) → at ≤ end → FieldsStand bytes at more) → FieldsStand bytes from (fields ++ more)
@@ -46,12 +43,6 @@ zeros_whole (suc count) = ap (λ (zs : List ℕ). 0 ∷ zs) (zeros_whole count)
 zeros_many : (count : ℕ) → length {A = ℕ} (replicate count 0) ≡ count
 zeros_many zero = refl
 zeros_many (suc count) = ap suc (zeros_many count)
-
-pub zeros_long : (size : FieldSize) → length {A = ℕ} (replicate (width size) 0) ≡ width size
-zeros_long One = refl
-zeros_long Two = refl
-zeros_long Four = refl
-zeros_long Eight = refl
 
 -- zeros behind the bytes, from there on
 zeros_behind : (bytes : List ℕ) (count : ℕ)

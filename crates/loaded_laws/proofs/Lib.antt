@@ -1,0 +1,6 @@
+mod Shifts
+mod Orders
+mod Counts
+mod Relocated
+mod Bytes
+pub mod CodeBytes

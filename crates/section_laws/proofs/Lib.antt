@@ -1,0 +1,3 @@
+mod FieldOrder
+mod Counting
+pub mod PutLemmas
