@@ -52,7 +52,7 @@ module _ {X : Type 0} where
   set_twice (x ∷ xs) (suc i) first last = ap (λ rest. x ∷ rest) (set_twice xs i first last)
 
   -- what is there is there in front of more
-  get_append : (xs ys : List X) (i : ℕ) (x : X) → slice_get xs i ≡ Some x → slice_get (xs ++ ys) i ≡ Some x
+  pub get_append : (xs ys : List X) (i : ℕ) (x : X) → slice_get xs i ≡ Some x → slice_get (xs ++ ys) i ≡ Some x
   get_append [] ys i x there = absurd (none-some x there)
   get_append (y ∷ xs) ys zero x there = there
   get_append (y ∷ xs) ys (suc i) x there = get_append xs ys i x there

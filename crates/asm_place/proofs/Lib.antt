@@ -29,3 +29,5 @@ mod FramePlaces
 mod DirectivePlaces
 mod PlaceWalk
 mod JumpTargets
+mod PutSections
+mod KeptSections

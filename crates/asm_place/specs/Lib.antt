@@ -9,6 +9,7 @@ pub mod Placing
 pub mod Sources
 pub mod Instructions
 pub mod Bodies
+pub mod PutSections
 pub mod CodePlaces
 pub mod JumpPlaces
 pub mod SymbolPlaces

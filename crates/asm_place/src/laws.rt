@@ -1,11 +1,13 @@
 //! What holds of all that is placed.
 
-ghost use Rattle.std.specs.Prelude.{◌≡◌, ◌≤◌, ◌^◌, ◌∷◌, ◌++◌, ℕ, Bool, List, length, Option, None, Some, Ok, Err, true, false};
+ghost use Rattle.std.specs.Prelude.{◌≡◌, ◌≢◌, ◌≤◌, ◌^◌, ◌∷◌, ◌++◌, ℕ, Bool, List, length, Option, None, Some, Ok, Err, true, false, slice_get};
 ghost use Rattle.asm_base.specs.declared.positions.Pos.{Pos};
 ghost use Rattle.asm_base.specs.Tokens.{SpelledToken};
 ghost use Rattle.asm_lines.specs.NextStatements.{TokenStatement};
 ghost use Rattle.asm_operands.specs.Operands.{begins_with_label};
-ghost use Rattle.asm_place.specs.Bodies.{labels_of, tokens_in_two, front, place_in_two, AreLabels};
+ghost use Rattle.asm_place.specs.Bodies.{labels_of, body_of, tokens_in_two, front, place_in_two, AreLabels};
+ghost use Rattle.asm_place.specs.PutSections.{section_put};
+ghost use Rattle.asm_frags.specs.Writing.{LooseSection};
 ghost use Rattle.x86_lookup.specs.BareInstructions.{Coded};
 ghost use Rattle.asm_values.specs.State.{Placed, nothing_placed};
 ghost use Rattle.asm_place.specs.Placing.{place_tokens};
@@ -85,6 +87,18 @@ pub fn labels_change_symbols()
     ensures { (s : TokenStatement) (before after : Placed)
         → place (front s) before ≡ Ok after → AreLabels before after }
 {}
+
+/// A statement without labels changes one section at most of those that are there: the one that it puts
+/// into.
+pub fn statements_put_into_one_section()
+    ensures { (s : TokenStatement) (before after : Placed) (number : ℕ) (held : LooseSection)
+        → begins_with_label s.tokens ≡ false → place s before ≡ Ok after
+        → slice_get before.sections number ≡ Some held
+        → section_put (body_of s.tokens) before ≢ Some number
+        → slice_get after.sections number ≡ Some held }
+{
+    frame_directives_keep_all_else();
+}
 
 /// Where a statement is an instruction without operands in AT&T syntax, its bytes are put last in the
 /// current section, and nothing else. Any other instruction, and each in Intel syntax, is one of

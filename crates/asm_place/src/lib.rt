@@ -19,7 +19,7 @@ pub use laws::{
     encoding_items, encoding_stands, instruction_items, instruction_stands, jump_items,
     jumps_are_put, jumps_read, labels_change_symbols, places_stand, placing_grows,
     placing_in_order, placing_is_not_reading, placing_within, procedures_stand_in_order,
-    sources_are_small, statements_split,
+    sources_are_small, statements_put_into_one_section, statements_split,
 };
 pub use place_faults::{BoxedFault, FaultAt};
 pub use sources::StatementPlacer;
