@@ -31,3 +31,4 @@ mod PlaceWalk
 mod JumpTargets
 mod PutSections
 mod KeptSections
+mod LoneMnemonics

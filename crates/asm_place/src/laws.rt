@@ -1,12 +1,17 @@
 //! What holds of all that is placed.
 
-ghost use Rattle.std.specs.Prelude.{◌≡◌, ◌≢◌, ◌≤◌, ◌^◌, ◌∷◌, ◌++◌, ℕ, Bool, List, length, Option, None, Some, Ok, Err, true, false, slice_get};
+ghost use Rattle.std.specs.Prelude.{◌≡◌, ◌≢◌, ◌≤◌, ◌^◌, ◌∷◌, ◌++◌, ℕ, Bool, List, length, Option, None, Some, Ok, Err, true, false, is_some, slice_get};
+ghost use Rattle.std.specs.Result.{is_err};
 ghost use Rattle.asm_base.specs.declared.positions.Pos.{Pos};
 ghost use Rattle.asm_base.specs.Tokens.{SpelledToken};
 ghost use Rattle.asm_lines.specs.NextStatements.{TokenStatement};
 ghost use Rattle.asm_operands.specs.Operands.{begins_with_label};
+ghost use Rattle.asm_place.specs.declared.bodies.Body.TheVariants.{Instruction};
 ghost use Rattle.asm_place.specs.Bodies.{labels_of, body_of, tokens_in_two, front, place_in_two, AreLabels};
+ghost use Rattle.asm_place.specs.Coding.{lone_code, insn_by};
+ghost use Rattle.asm_place.specs.Effects.{insn_view};
 ghost use Rattle.asm_place.specs.PutSections.{section_put};
+ghost use Rattle.asm_words.specs.declared.directives.Syntax.{Syntax};
 ghost use Rattle.asm_frags.specs.Writing.{LooseSection};
 ghost use Rattle.x86_lookup.specs.BareInstructions.{Coded};
 ghost use Rattle.asm_values.specs.State.{Placed, nothing_placed};
@@ -98,6 +103,19 @@ pub fn statements_put_into_one_section()
         → slice_get after.sections number ≡ Some held }
 {
     frame_directives_keep_all_else();
+}
+
+/// A mnemonic that has bytes of its own is read where it stands alone; so each instruction that is placed
+/// is seen.
+pub fn instructions_are_seen()
+    ensures alone { (syntax : Syntax) (tokens : List SpelledToken) (bytes : List ℕ)
+        → lone_code syntax tokens ≡ Some bytes → is_err (insn_by syntax tokens) ≡ false }
+    ensures placed { (s : TokenStatement) (before placed : Placed)
+        → begins_with_label s.tokens ≡ false → body_of s.tokens ≡ Instruction
+        → place s before ≡ Ok placed
+        → is_some (insn_view (pos_at s.file s.line) s.tokens before) ≡ true }
+{
+    bare_codes_read();
 }
 
 /// Where a statement is an instruction without operands in AT&T syntax, its bytes are put last in the

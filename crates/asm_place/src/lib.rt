@@ -16,8 +16,8 @@ mod watches;
 
 pub use bodies::{Body, body_of, labels_length};
 pub use laws::{
-    encoding_items, encoding_stands, instruction_items, instruction_stands, jump_items,
-    jumps_are_put, jumps_read, labels_change_symbols, places_stand, placing_grows,
+    encoding_items, encoding_stands, instruction_items, instruction_stands, instructions_are_seen,
+    jump_items, jumps_are_put, jumps_read, labels_change_symbols, places_stand, placing_grows,
     placing_in_order, placing_is_not_reading, placing_within, procedures_stand_in_order,
     sources_are_small, statements_put_into_one_section, statements_split,
 };
