@@ -19,20 +19,20 @@ INTRODUCTION = """\
 # Instructions
 
 Forms of instructions: all {count} rows of the table in crate `x86_table`, of which `tools/instructions.py` writes this
-document. Which of them a source may have stands in the README. Of the forms that take an instruction the shortest
-counts, and of equally short ones the first.
+document. The README says which of them a source may have. Of the forms that take an instruction the shortest counts,
+and of equally short ones the first.
 
 - *Bytes*, as the Intel manual writes them (volume 2, section 3.1.1). `/r` is a ModRM byte with a register and a
   register or memory, `/0` to `/7` one with that digit; `+rb +rw +rd +ro` a register in the opcode's low bits; `ib iw id
-  io` an immediate of 1, 2, 4 or 8 bytes, `cb cd` a distance of 1 or 4. REX also stands where a register needs it.
+  io` an immediate of 1, 2, 4 or 8 bytes, `cb cd` a distance of 1 or 4. REX is also there where a register needs it.
 - *Instruction*: name and operands in the manual's words. `m` is memory whose size does not count. An `imm8` beside
   which the same instruction has an `imm16` or `imm32` is sign-extended, and so is the `imm32` of 64-bit operands.
-- *AT&T*: its names there, where the operands stand in the other order. Names that have several sizes are given with the
+- *AT&T*: its names there, with the operands in the other order. Names that have several sizes are given with the
   letter of the size, `b w l q`. It may be left out where a register says the size, but for the strings, and is `l`
   where it is left out of `cvtsi2ss` and `cvtsi2sd` of memory; a name of one size may have its letter too. Extensions
   are also `movzx` and `movsx`, whose letter is that of the source, and `movzb` and `movzw`. A shift of one operand is
   by 1, and `shld` and `shrd` of two operands are by `%cl`.
-- *Words* that may stand before it; `lock` where its first operand is memory.
+- *Words* that may precede it; `lock` where its first operand is memory.
 - *Writes*: the operands and registers that it writes beside flags, and what it stores that no operand shows. With a
   repeat prefix it writes rcx too. What `call` and `ret` do to the stack does not count.
 """
