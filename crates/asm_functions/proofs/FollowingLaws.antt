@@ -26,11 +26,11 @@ module _ {A E : Type 0} where
   err-ok : {C : Type 0} (fault : E) (x : A) → ◌≡◌ {A = Result A E} (Err fault) (Ok x) → C
   err-ok fault x is = absurd (cc)
 
-  same_Ok : (x y : A) → ◌≡◌ {A = Result A E} (Ok x) (Ok y) → x ≡ y
+  pub same_Ok : (x y : A) → ◌≡◌ {A = Result A E} (Ok x) (Ok y) → x ≡ y
   same_Ok x y is = ap (λ (r : Result A E). elim r [ Ok made ↦ made | Err fault ↦ x ]) is
 
 module _ {A B E C : Type 0} where
-  both_ok : (r : Result A E) (f : A → Result B E) (y : B) → (r >>= f) ≡ Ok y → ((x : A) → r ≡ Ok x → f x ≡ Ok y → C) → C
+  pub both_ok : (r : Result A E) (f : A → Result B E) (y : B) → (r >>= f) ≡ Ok y → ((x : A) → r ≡ Ok x → f x ≡ Ok y → C) → C
   both_ok (Ok x) f y is go = go x refl is
   both_ok (Err fault) f y is go = err-ok fault y is
 
@@ -78,7 +78,7 @@ body_led body.Unknown s f g is = stepped_by (place s f.placed) _ f g is
 
 -- ALL STATEMENTS
 
-remarked_ok : (f g : FollowedSource) (answer : Result FollowedSource FaultAt) → remarked f answer ≡ Ok g → answer ≡ Ok g
+pub remarked_ok : (f g : FollowedSource) (answer : Result FollowedSource FaultAt) → remarked f answer ≡ Ok g → answer ≡ Ok g
 remarked_ok f g (Ok more) is = is
 remarked_ok f g (Err stop) is = err-ok _ g is
 

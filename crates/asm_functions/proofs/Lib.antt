@@ -6,4 +6,6 @@ mod FollowingLaws
 mod StandingLemmas
 mod StandingLaws
 mod OrderLemmas
+mod JoinedLemmas
+mod JoinedLaws
 mod Worked

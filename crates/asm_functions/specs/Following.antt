@@ -178,8 +178,7 @@ follow_directive (directive.Frame frame) pos tokens there after functions = func
 
 -- INSTRUCTIONS
 
--- what is seen of an instruction whose section ended here, and had and has so many fields. What can't be read would be no instruction: such a statement is not placed; that each
--- mnemonic which stands alone is read is not shown here
+-- what is seen of an instruction whose section ended here, and had and has so many fields. What can't be read would be no instruction: such a statement is not placed
 abbrev pub item_seen : Option View → Pos → Place → (before after : ℕ) → SeenItem
 item_seen None pos place before after = data_item pos place
 item_seen (Some view) pos place before after = insn_item pos place view (target_field (flow_of view) before after)

@@ -3,4 +3,5 @@ pub mod Following
 pub mod FollowedSource
 pub mod Refusals
 pub mod Standing
+pub mod Joined
 pub mod Worked

@@ -13,10 +13,12 @@ ghost use Rattle.code_functions.specs.Recorded.{Recorded, items_of};
 ghost use Rattle.code_functions.specs.Seen.{all_seen};
 ghost use Rattle.asm_functions.specs.FollowedSource.{FollowedSource, nothing_followed, place_followed, follow_all, functions_at_end, placed_alone, placed_part};
 ghost use Rattle.asm_functions.specs.Standing.{StandsInOrder};
+ghost use Rattle.asm_functions.specs.Joined.{IsJoined};
 ghost use Rattle.asm_functions.specs.Worked.{WorkedSteps};
 
 use asm_place::{
-    places_stand, placing_grows, placing_is_not_reading, placing_within, statements_split,
+    labels_change_symbols, places_stand, placing_grows, placing_is_not_reading, placing_within,
+    statements_put_into_one_section, statements_split,
 };
 
 /// Statements that are followed as they are handed out are followed in order.
@@ -65,6 +67,26 @@ pub fn standing_items_are_in_order()
         → All (StandsInOrder sections) (all_seen functions)
         → AreInOrder (items_of number functions) }
 {}
+
+/// The items of a function are all that its section gets from the function's beginning to its end: each
+/// is what one statement put there, the first begins where the function does, each other one where the
+/// one before it ends, and the last one ends where the function has ended, or where its section ends so
+/// far. So it is too once all have ended at the end of their sections.
+pub fn items_are_joined()
+    ensures so_far { (statements : List TokenStatement) (no_warn asked : Bool) (f : FollowedSource)
+        → follow_all statements (nothing_followed no_warn asked) ≡ Ok f
+        → All (IsJoined statements (nothing_followed no_warn asked) f.placed.sections) f.functions }
+    ensures whole { (statements : List TokenStatement) (no_warn asked : Bool) (f : FollowedSource)
+        → follow_all statements (nothing_followed no_warn asked) ≡ Ok f
+        → All (IsJoined statements (nothing_followed no_warn asked) f.placed.sections)
+        (functions_at_end f) }
+{
+    placing_grows();
+    places_stand();
+    labels_change_symbols();
+    statements_split();
+    statements_put_into_one_section();
+}
 
 /// Only the reading of a file calls it too large: no step of following does.
 pub fn following_is_not_reading()
