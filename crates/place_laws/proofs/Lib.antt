@@ -1,0 +1,9 @@
+pub mod Elements
+pub mod Moving
+pub mod Keeping
+pub mod Addresses
+pub mod Leading
+pub mod CodeBytes
+pub mod Standing
+pub mod Aligning
+pub mod Jumping

@@ -1,0 +1,32 @@
+//! Where sections end.
+
+ghost use Rattle.place_laws.specs.Ends.{EndsAdd, EndsAreAddresses, EndsMove, LayoutsKeepItems};
+
+use asm_relax::{layouts_keep_sections, sizes_add_up};
+
+/// What is put into a section moves its end by its size in the layout.
+pub fn ends_move()
+    ensures { EndsMove }
+{}
+
+/// Whatever is put into a section, its bytes and the sizes of its items in the layout move the end.
+pub fn ends_add()
+    ensures { EndsAdd }
+{}
+
+/// The items of each section are the first ones of its section in the layout: with the same
+/// contents, after as many plain bytes, and with sizes that they may have.
+pub fn layouts_keep_items()
+    ensures { LayoutsKeepItems }
+{
+    layouts_keep_sections();
+}
+
+/// The place after so many bytes and items of a section has the address at which a section of as
+/// many ends in the layout.
+pub fn ends_are_addresses()
+    ensures { EndsAreAddresses }
+{
+    layouts_keep_sections();
+    sizes_add_up();
+}
