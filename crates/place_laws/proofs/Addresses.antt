@@ -12,13 +12,15 @@ use Rattle.asm_relax.specs.Placing.{placed_from, placed_section, shift_of}
 use Rattle.asm_relax.specs.Settling.{LaidItem}
 use Rattle.place_laws.specs.Ends.{items_in, EndsAreAddresses}
 
+-- and how many plain bytes are before them
 low_kept : (items : List LooseItem) (shifts : List ℕ) → All (λ item. item.offset < 2 ^ 64) items → All (λ item. item.offset < 2 ^ 64) (kept_items shifts items)
 low_kept [] shifts all = All-nil _
 low_kept (item ∷ items) shifts all =
     All-cons (λ (i : LaidItem). i.offset < 2 ^ 64) _ _ (All-head (λ (i : LooseItem). i.offset < 2 ^ 64) item items all)
     (low_kept items (drop 1 shifts) (All-tail (λ (i : LooseItem). i.offset < 2 ^ 64) item items all))
 
-long_kept : (items : List LooseItem) (shifts : List ℕ) → length (kept_items shifts items) ≡ length items
+-- a layout keeps the number of items
+pub long_kept : (items : List LooseItem) (shifts : List ℕ) → length (kept_items shifts items) ≡ length items
 long_kept [] shifts = refl
 long_kept (item ∷ items) shifts = ap suc (long_kept items (drop 1 shifts))
 

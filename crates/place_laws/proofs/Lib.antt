@@ -5,5 +5,6 @@ pub mod Addresses
 pub mod Leading
 pub mod CodeBytes
 pub mod Standing
+pub mod Sizes
 pub mod Aligning
 pub mod Jumping

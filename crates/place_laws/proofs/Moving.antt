@@ -48,7 +48,8 @@ shift_on (suc count) more (item ∷ items) =
     let here : shift_of more 0 (drop (suc count) (item ∷ items)) ≡ shift_of more 0 (drop count items) = refl in
     omega (arith, whole, first, later, here)
 
-first_after : (items : List LaidItem) (index : ℕ) → shift_of 1 0 (drop index items) ≡ size_at items index
+-- the first one after so many is the one of that index
+pub first_after : (items : List LaidItem) (index : ℕ) → shift_of 1 0 (drop index items) ≡ size_at items index
 first_after [] zero = refl
 first_after [] (suc index) = refl
 first_after (item ∷ items) zero = omega arith

@@ -21,7 +21,7 @@ use Rattle.asm_place.specs.Instructions.{behind_labels, instruction_written, wit
 use Rattle.asm_place.specs.CodePlaces.{FieldInCode, insn_written, jump_in, blanked, code_fields, with_code, IsCodePut, IsInsnPut}
 use Rattle.asm_place.specs.JumpPlaces.{IsJumpPut, jump_form, items_so_far}
 use Rattle.place_laws.specs.Ends.{end_in, items_in, size_at, AreFirst, LayoutsKeepItems}
-use Rattle.place_laws.specs.Statements.{IsLaidLater, MovesOnly, added, InsnMoves, JumpMoves, AddedMoves, StatementsStand, SpotsGivePlaces}
+use Rattle.place_laws.specs.Statements.{IsLaidLater, MovesOnly, added, InsnMoves, JumpMoves, GrowthMovesPlaces, StatementsStand, SpotsGivePlaces}
 use Rattle.place_laws.proofs.CodeBytes.{blank_long}
 use Rattle.place_laws.proofs.Elements.{get_set, get_set_other, get_first}
 use Rattle.place_laws.proofs.Moving.{run_moves, ends_move, ends_add}
@@ -112,24 +112,24 @@ module _ (facts : Facts) (laid : LaidSections) where
             (moves ∙ ap (λ n. end_in items put.section + size_at items n) (sym (so_far_is before put.section put.there)));
       }
 
-  any_stands : (statements : List TokenStatement) (before placed : Placed) (number : ℕ) (section : LooseSection)
-      → place_all statements before ≡ Ok placed → slice_get before.sections number ≡ Some section → AddedMoves laid number section before placed
-  any_stands statements before placed number section is there =
-      let more = (facts.grow statements before placed is).kept number section there in
-      let items = items_in laid number in
-      let new = with_more section more.bytes more.fields more.items in
-      let moves = ends_add section new more.bytes more.items items refl refl in
-      record {
-        more = more;
-        moves = ap (λ f. option_map_or (end_in items) f 0) more.there ∙ moves ∙ ap (λ f. option_map_or (end_in items) f 0 + added laid number more) (sym there);
-      }
+pub growth_moves_places : GrowthMovesPlaces
+growth_moves_places laid number section before after grows there =
+    let more = grows.kept number section there in
+    let items = items_in laid number in
+    let new = with_more section more.bytes more.fields more.items in
+    let moves = ends_add section new more.bytes more.items items refl refl in
+    record {
+      more = more;
+      moves = ap (λ f. option_map_or (end_in items) f 0) more.there ∙ moves ∙ ap (λ f. option_map_or (end_in items) f 0 + added laid number more) (sym there);
+    }
 
 pub statements_stand : Facts → StatementsStand
 statements_stand facts = record {
   bare = λ laid. bare_stands facts laid;
   code = λ laid. code_stands facts laid;
   jump = λ laid. jump_stands facts laid;
-  any = λ laid. any_stands facts laid;
+  any = λ laid statements before placed number section is there.
+      growth_moves_places laid number section before.sections placed.sections (facts.grow statements before placed is) there;
 }
 
 -- the place of what is put next, by that of the spot

@@ -8,6 +8,7 @@ use Rattle.asm_symbols.specs.SymbolMap.{SymbolMap}
 use Rattle.asm_frags.specs.declared.fields.FieldSize.{FieldSize}
 use Rattle.asm_frags.specs.declared.roles.FieldRole.{FieldRole}
 use Rattle.asm_frags.specs.Fields.{width}
+use Rattle.asm_frags.specs.SectionOf.{SectionOf}
 use Rattle.asm_frags.specs.Writing.{LooseItem, LooseSection, with_item, with_bytes, with_field}
 use Rattle.asm_frags.specs.Writing.{with_growing}
 use Rattle.item_contents.specs.declared.kinds.Growth.{Growth}
@@ -15,6 +16,7 @@ use Rattle.item_contents.specs.Contents.{MayHave}
 use Rattle.x86_insn.specs.declared.amounts.Suffix.{Suffix}
 use Rattle.asm_relax.specs.Final.{address_of}
 use Rattle.asm_relax.specs.Placing.{shift_of}
+use Rattle.asm_relax.specs.RangeChecks.{whole_size}
 use Rattle.asm_relax.specs.Settling.{LaidItem, LooseSections, LaidSections, layout_of}
 
 -- THE END OF A SECTION
@@ -106,3 +108,10 @@ EndsAreAddresses = (symbols : SymbolMap) (sections : LooseSections) (laid : Laid
     → length now.items < length section.items + 1
     → address_of laid number (length now.items) (length now.bytes)
     ≡ wrapped (end_in (items_in laid number) now)
+
+-- in its own layout a section ends after as many bytes as it has there
+abbrev pub EndsAreSizes : Type 0
+EndsAreSizes = (symbols : SymbolMap) (sections : LooseSections) (laid : LaidSections)
+    → (number : ℕ) (section : LooseSection) (kept : SectionOf LaidItem)
+    → layout_of symbols sections ≡ Ok laid → slice_get sections number ≡ Some section
+    → slice_get laid number ≡ Some kept → place_in laid number sections ≡ whole_size kept

@@ -1,12 +1,14 @@
 -- Where the statement after a statement is in its section, in the layout of all statements.
-use Rattle.std.specs.Prelude.{◌≡◌, ◌≢◌, ℕ, ◌+◌, List, Option, None, Some, Ok, length, slice_get}
+use Rattle.std.specs.Prelude.{◌≡◌, ◌≢◌, ◌≤◌, ℕ, ◌+◌, ◌^◌, List, Option, None, Some, Ok, length, slice_get}
 use Rattle.asm_base.specs.Tokens.{SpelledToken}
 use Rattle.asm_base.specs.declared.positions.Pos.{Pos}
 use Rattle.asm_lines.specs.NextStatements.{TokenStatement}
 use Rattle.asm_symbols.specs.SymbolMap.{SymbolMap}
+use Rattle.asm_frags.specs.SectionOf.{SectionOf}
 use Rattle.asm_frags.specs.Writing.{LooseSection}
 use Rattle.item_bytes.specs.declared.jumps.Condition.{Condition}
-use Rattle.asm_relax.specs.Settling.{LooseSections, LaidSections, layout_of}
+use Rattle.asm_relax.specs.RangeChecks.{whole_size}
+use Rattle.asm_relax.specs.Settling.{LaidItem, LooseSections, LaidSections, layout_of}
 use Rattle.asm_uses.specs.Places.{spot_at}
 use Rattle.asm_values.specs.State.{Placed}
 use Rattle.att_insns.specs.InsnTexts.{InsnText}
@@ -58,11 +60,30 @@ pub record JumpMoves (laid : LaidSections) (pos : Pos) (tokens : List SpelledTok
   pub moves : MovesOnly laid before.current before.sections placed.sections
       (size_at (items_in laid before.current) (items_so_far before))
 
--- the section is continued, and the place in it is moved by what was put into it
+-- the section is continued, and the place of what is put next into it is moved by what was put
+-- into it
 pub record AddedMoves (laid : LaidSections) (number : ℕ) (section : LooseSection)
-    (before placed : Placed) : Type 0 where
-  pub more : IsContinued section (slice_get placed.sections number)
-  pub moves : MovesPlace laid number before.sections placed.sections (added laid number more)
+    (before after : List LooseSection) : Type 0 where
+  pub more : IsContinued section (slice_get after number)
+  pub moves : MovesPlace laid number before after (added laid number more)
+
+-- wherever sections grow, so it is with each of them
+abbrev pub GrowthMovesPlaces : Type 0
+GrowthMovesPlaces = (laid : LaidSections) (number : ℕ) (section : LooseSection)
+    → (before after : List LooseSection) → Grows before after
+    → slice_get before number ≡ Some section → AddedMoves laid number section before after
+
+-- the place is at most the size of this section of a layout, which is at most 2^30
+pub record IsInside (kept : SectionOf LaidItem) (place : ℕ) : Type 0 where
+  pub inside : place ≤ whole_size kept
+  pub small : whole_size kept ≤ 2 ^ 30
+
+-- so it is with the place of what is put next, in a layout of later sections
+abbrev pub PlacesAreInside : Type 0
+PlacesAreInside = (sections : List LooseSection) (laid : LaidSections) (number : ℕ)
+    → (section : LooseSection) (kept : SectionOf LaidItem) → IsLaidLater sections laid
+    → slice_get sections number ≡ Some section → slice_get laid number ≡ Some kept
+    → IsInside kept (place_in laid number sections)
 
 -- each statement moves the place of what is put next by what it puts
 pub record StatementsStand : Type 0 where
@@ -88,7 +109,7 @@ pub record StatementsStand : Type 0 where
   pub any : (laid : LaidSections) (statements : List TokenStatement) (before placed : Placed)
       → (number : ℕ) (section : LooseSection) → place_all statements before ≡ Ok placed
       → slice_get before.sections number ≡ Some section
-      → AddedMoves laid number section before placed
+      → AddedMoves laid number section before.sections placed.sections
 
 -- where the spot of a section has the same place, what is put next has the same place
 abbrev pub SpotsGivePlaces : Type 0

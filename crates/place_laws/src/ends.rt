@@ -1,6 +1,6 @@
 //! Where sections end.
 
-ghost use Rattle.place_laws.specs.Ends.{EndsAdd, EndsAreAddresses, EndsMove, LayoutsKeepItems};
+ghost use Rattle.place_laws.specs.Ends.{EndsAdd, EndsAreAddresses, EndsAreSizes, EndsMove, LayoutsKeepItems};
 
 use asm_relax::{layouts_keep_sections, sizes_add_up};
 
@@ -26,6 +26,14 @@ pub fn layouts_keep_items()
 /// many ends in the layout.
 pub fn ends_are_addresses()
     ensures { EndsAreAddresses }
+{
+    layouts_keep_sections();
+    sizes_add_up();
+}
+
+/// In its own layout a section ends after as many bytes as it has there.
+pub fn ends_are_sizes()
+    ensures { EndsAreSizes }
 {
     layouts_keep_sections();
     sizes_add_up();
