@@ -37,7 +37,8 @@ use Rattle.asm_functions.specs.Joined.{body_put, data_put, directive_put, align_
 use Rattle.asm_functions.proofs.FollowingLaws.{both_ok, same_Ok, remarked_ok, unasked}
 use Rattle.asm_functions.proofs.JoinedLemmas.{AreSound, IsSound, OnlyMoves, Puts, still, put_sound, data_sound, moved_sound, all_closed_sound, closed_of_sound, begun_sound}
 
-end_by : (before after : List LooseSection) (number : ℕ) → slice_get after number ≡ slice_get before number → end_of after number ≡ end_of before number
+-- a section that is what it was ends where it did
+pub end_by : (before after : List LooseSection) (number : ℕ) → slice_get after number ≡ slice_get before number → end_of after number ≡ end_of before number
 unfolding spot_at
 end_by before after number same = ap (λ o. (option_map_or (spot_in number) o (no_spot number)).place.place) same
 

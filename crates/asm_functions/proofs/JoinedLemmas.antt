@@ -21,11 +21,24 @@ both : (a b : Bool) → (a && b) ≡ true → (a ≡ true) × (b ≡ true)
 both true b is = (refl, is)
 both false b is = absurd (false≢true is)
 
-same_number : (one other : ℕ) → (one == other) ≡ true → one ≡ other
+pub same_number : (one other : ℕ) → (one == other) ≡ true → one ≡ other
 same_number one other is = grind (arith, nat_tests)
 
-other_number : (one other : ℕ) → (one == other) ≡ false → other ≢ one
+pub other_number : (one other : ℕ) → (one == other) ≡ false → other ≢ one
 other_number one other is = λ same. grind (arith, nat_tests)
+
+not_not : (test : Bool) → not test ≡ false → test ≡ true
+not_not true is = refl
+not_not false is = absurd (false≢true (sym is))
+
+-- where a statement without operands is no data, its section ends where it did
+pub same_end : (operands : Bool) (start stop : Place) → (operands || not (same_place start stop)) ≡ false → stop ≡ start
+same_end true start stop none = absurd (false≢true (sym none))
+same_end false start stop none = places (both (start.item == stop.item) (start.offset == stop.offset) (not_not (same_place start stop) none)) where
+  places : ((start.item == stop.item) ≡ true) × ((start.offset == stop.offset) ≡ true) → stop ≡ start
+  places tests =
+      ap (λ (item : ℕ). record { item = item; offset = stop.offset }) (sym (same_number start.item stop.item tests.0))
+      ∙ ap (λ (offset : ℕ). record { item = start.item; offset = offset }) (sym (same_number start.offset stop.offset tests.1))
 
 -- EACH OF A LIST
 
@@ -196,18 +209,6 @@ module _ (statements : List TokenStatement) (first : FollowedSource) where
     data_sound operands number moves puts =
         data_by (operands || not (same_place (end_of there.sections number) (end_of after.sections number))) number
         (λ none. same_end operands (end_of there.sections number) (end_of after.sections number) none) moves puts
-      where
-        same_end : (operands : Bool) (start stop : Place) → (operands || not (same_place start stop)) ≡ false → stop ≡ start
-        same_end true start stop none = absurd (false≢true (sym none))
-        same_end false start stop none = places (both (start.item == stop.item) (start.offset == stop.offset) (not_not (same_place start stop) none)) where
-          not_not : (test : Bool) → not test ≡ false → test ≡ true
-          not_not true is = refl
-          not_not false is = absurd (false≢true (sym is))
-
-          places : ((start.item == stop.item) ≡ true) × ((start.offset == stop.offset) ≡ true) → stop ≡ start
-          places tests =
-              ap (λ (item : ℕ). record { item = item; offset = stop.offset }) (sym (same_number start.item stop.item tests.0))
-              ∙ ap (λ (offset : ℕ). record { item = start.item; offset = offset }) (sym (same_number start.offset stop.offset tests.1))
 
     pub moved_sound : (number : Option ℕ) → OnlyMoves there.sections after.sections number → Puts there after (moved_put pos number there after)
         → AreSound after.sections (with_moved pos number there after functions)

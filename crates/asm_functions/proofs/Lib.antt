@@ -8,4 +8,5 @@ mod StandingLaws
 mod OrderLemmas
 mod JoinedLemmas
 mod JoinedLaws
+mod MovedLaws
 mod Worked

@@ -76,6 +76,12 @@ body_put (body.Directed (Some found)) pos tokens there after = directive_put fou
 body_put body.Instruction pos tokens there after = insn_put pos tokens there after
 body_put _ pos tokens there after = None
 
+-- what is due is an item of the section of this number, at its end
+pub record PutsInto (there : Placed) (number : ℕ) (due : Option PutItem) : Type 0 where
+  pub item : SeenItem
+  pub is : due ≡ Some (record { section = number; item = item })
+  pub at : item.place ≡ end_of there.sections number
+
 -- ITEMS ONE AFTER THE OTHER
 
 -- the item is what one of the statements put into the section: it begins at the one place, where the section ended before that statement, and ends at the

@@ -1,19 +1,23 @@
 //! What holds of all that is followed.
 
-ghost use Rattle.std.specs.Prelude.{◌≡◌, ℕ, Bool, List, All, map, Ok, Err, false};
+ghost use Rattle.std.specs.Prelude.{◌≡◌, ◌≢◌, ℕ, Bool, List, All, map, Ok, Err, Some, slice_get, false};
 ghost use Rattle.asm_lines.specs.NextStatements.{TokenStatement};
 ghost use Rattle.asm_lines.specs.Placing.{placed_in_order};
 ghost use Rattle.asm_place.specs.Faults.{is_file_too_large};
-ghost use Rattle.asm_place.specs.Sources.{place_all};
+ghost use Rattle.asm_operands.specs.Operands.{begins_with_label};
+ghost use Rattle.asm_values.specs.State.{Placed};
+ghost use Rattle.asm_place.specs.Bodies.{body_of};
+ghost use Rattle.asm_place.specs.Sources.{place, place_all};
 ghost use Rattle.asm_place.specs.declared.place_faults.FaultAt.{FaultAt};
 ghost use Rattle.asm_frags.specs.Writing.{LooseSection};
 ghost use Rattle.code_functions.specs.declared.items.CodeItem.{CodeItem};
 ghost use Rattle.code_functions.specs.InOrder.{AreInOrder};
 ghost use Rattle.code_functions.specs.Recorded.{Recorded, items_of};
 ghost use Rattle.code_functions.specs.Seen.{all_seen};
-ghost use Rattle.asm_functions.specs.FollowedSource.{FollowedSource, nothing_followed, place_followed, follow_all, functions_at_end, placed_alone, placed_part};
+ghost use Rattle.asm_functions.specs.FollowedSource.{FollowedSource, nothing_followed, place_of, place_followed, follow_all, functions_at_end, placed_alone, placed_part};
 ghost use Rattle.asm_functions.specs.Standing.{StandsInOrder};
-ghost use Rattle.asm_functions.specs.Joined.{IsJoined};
+ghost use Rattle.asm_functions.specs.Following.{end_of};
+ghost use Rattle.asm_functions.specs.Joined.{body_put, PutsInto, IsJoined};
 ghost use Rattle.asm_functions.specs.Worked.{WorkedSteps};
 
 use asm_place::{
@@ -67,6 +71,17 @@ pub fn standing_items_are_in_order()
         → All (StandsInOrder sections) (all_seen functions)
         → AreInOrder (items_of number functions) }
 {}
+
+/// A statement without labels that moves the end of a section puts an item into it, at the end that was.
+pub fn moves_are_items()
+    ensures { (s : TokenStatement) (before after : Placed) (number : ℕ) (held : LooseSection)
+        → begins_with_label s.tokens ≡ false → place s before ≡ Ok after
+        → slice_get before.sections number ≡ Some held
+        → end_of after.sections number ≢ end_of before.sections number
+        → PutsInto before number (body_put (body_of s.tokens) (place_of s) s.tokens before after) }
+{
+    statements_put_into_one_section();
+}
 
 /// The items of a function are all that its section gets from the function's beginning to its end: each
 /// is what one statement put there, the first begins where the function does, each other one where the

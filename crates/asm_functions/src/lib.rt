@@ -10,7 +10,7 @@ mod seen_functions;
 pub use following::FollowingPlacer;
 pub use laws::{
     following_in_order, following_is_not_reading, following_is_placing, functions_stand_in_order,
-    items_are_joined, standing_items_are_in_order, worked_steps,
+    items_are_joined, moves_are_items, standing_items_are_in_order, worked_steps,
 };
 pub use remarks::{Ignored, with_remark};
 pub use seen_functions::SeenFunctions;
