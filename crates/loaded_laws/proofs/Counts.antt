@@ -1,5 +1,5 @@
 -- Fields count the items of a section in each layout.
-use Rattle.std.proofs.Common.{◌≡◌, ℕ, zero, suc, ◌+◌, ◌^◌, ◌<◌, ◌≤◌, true, List, [], ◌∷◌, All, Some, Ok, length, get_or, refl, sym, ap, subst, ◌∙◌, arith}
+use Rattle.std.proofs.Common.{◌≡◌, ℕ, zero, suc, ◌^◌, ◌<◌, ◌≤◌, List, [], ◌∷◌, All, Some, Ok, length, get_or, refl, sym, ap, subst, ◌∙◌, arith}
 use Rattle.std.specs.Prelude.{map, slice_get, option_map, drop}
 use Rattle.std.proofs.lemmas.List.{length-map}
 use Rattle.std.proofs.lemmas.List.Elements.{All-map, All-head, All-tail}
@@ -12,7 +12,7 @@ use Rattle.asm_frags.specs.Addresses.{item_laid_at}
 use Rattle.asm_frags.specs.Substituting.{substituted_field, laid_item}
 use Rattle.asm_frags.specs.Writing.{LooseItem, LooseSection}
 use Rattle.assigned_forms.specs.Linked.{linked}
-use Rattle.section_laws.specs.Within.{AreBetween, IsInItem, CountsItems, IsWithin}
+use Rattle.section_laws.specs.Within.{AreBetween, CountsItems, IsWithin}
 use Rattle.asm_relax.specs.KeptSections.{kept_section, kept_items, kept_fields, IsSmall, LayoutsKeepSections}
 use Rattle.asm_relax.specs.Layout.{laid_from}
 use Rattle.asm_relax.specs.Settling.{LaidItem, LaidSections, LooseSections, layout_of}

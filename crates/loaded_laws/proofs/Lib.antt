@@ -3,4 +3,4 @@ mod Orders
 mod Counts
 mod Relocated
 mod Bytes
-pub mod CodeBytes
+mod CodeBytes

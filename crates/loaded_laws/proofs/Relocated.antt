@@ -15,11 +15,11 @@ use Rattle.asm_relax.specs.FieldValues.{counted, told_in_field, held_value}
 use Rattle.asm_relax.specs.Settling.{LaidItem, LaidSections}
 use Rattle.elf_file.specs.Sections.{no_bits}
 use Rattle.elf_object.specs.declared.relocations.Relocation.{Relocation}
-use Rattle.elf_object.specs.Relocations.{kind_number, relocation, reference_by, field_place, field_relocation}
+use Rattle.elf_object.specs.Relocations.{relocation, reference_by, field_place, field_relocation}
 use Rattle.object_laws.specs.FieldTypes.{RelocationsSuitFields}
-use Rattle.object_laws.specs.RelocationTypes.{RelocationType, relocation_type}
+use Rattle.object_laws.specs.RelocationTypes.{RelocationType}
 use Rattle.loaded_laws.specs.Loaded.{relocated_bytes, IsBesideRelocation}
-use Rattle.loaded_laws.specs.Beside.{IsBesideField, IsLeftAlone, RelocationsBeside, ValuesAreAlone}
+use Rattle.loaded_laws.specs.Beside.{IsLeftAlone, RelocationsBeside, ValuesAreAlone}
 
 module _ (suit : RelocationsSuitFields) (map : SymbolMap) (sections : LaidSections) (number place : ℕ) (section : SectionOf LaidItem) where
   -- beside a field, a byte is beside its relocation

@@ -6,7 +6,7 @@ use Rattle.std.proofs.lemmas.List.Elements.{All-head, All-tail}
 use Rattle.std.proofs.lemmas.Option.{none-some, same_Some, slice_get-get_or}
 use Rattle.asm_frags.specs.SectionOf.{SectionOf}
 use Rattle.asm_relax.specs.Placing.{placed_from, placed_section, shift_of}
-use Rattle.asm_relax.specs.RangeChecks.{last_item, end_shift, whole_size}
+use Rattle.asm_relax.specs.RangeChecks.{end_shift, whole_size}
 use Rattle.asm_relax.specs.Settling.{LaidItem}
 use Rattle.elf_object.specs.Places.{moved}
 
@@ -47,7 +47,7 @@ placed_at : (items : List LaidItem) (shift index : ℕ) (item : LaidItem) → sl
     → item.address ≡ item.offset + shift_of index shift items
 unfolding placed_from
 placed_at [] shift index item is = absurd (none-some item is)
-placed_at (x ∷ xs) shift zero item is = let same = same_Some _ item is in sym (ap (λ (i : LaidItem). i.offset + shift) same) ∙ ap (λ (i : LaidItem). i.address) same
+placed_at (x ∷ xs) shift zero item is = let same = same_Some _ item is in sym (ap (λ (i : LaidItem). i.address) same) ∙ ap (λ (i : LaidItem). i.offset + shift) same
 placed_at (x ∷ xs) shift (suc index) item is = placed_at xs (shift + x.size) index item is
 
 -- all items of a layout move its end
