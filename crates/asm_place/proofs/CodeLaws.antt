@@ -36,7 +36,7 @@ use Rattle.asm_place.specs.Bodies.{AreLabels}
 use Rattle.section_laws.specs.Within.{IsWithin, AreWithin, PutsStayWithin}
 use Rattle.asm_place.specs.Instructions.{behind_labels, instruction_written, run_end, with_more, IsContinued, Grows}
 use Rattle.asm_place.specs.CodePlaces.{text_read, insn_written, is_instruction, BeginsAsInstruction, insn_in, labelled, known_in, code_fields, with_held, zeros_in, blanked, AreApart, field_in, with_code, IsCodePut, IsInsnPut, CodeStandsAt, InsnStands, jump_in}
-use Rattle.asm_place.proofs.GrowthLemmas.{get_set, All-there, zeros_long, run_keeps, run_within}
+use Rattle.asm_place.proofs.GrowthLemmas.{get_set, All-there, zeros_long, run_within}
 use Rattle.asm_place.proofs.Walks.{FramesKeep}
 use Rattle.asm_place.proofs.PlacingLaws.{all_grow, all_within}
 use Rattle.asm_place.proofs.StatementSplits.{err-ok, same_Ok, both_ok, all_split}
