@@ -18,7 +18,7 @@ use Rattle.eh_frame.specs.Found.{IsPlaced}
 use Rattle.eh_frame.specs.StandingPlaces.{LabelsStand}
 use Rattle.item_bytes.specs.declared.jumps.Condition.{Condition}
 use Rattle.asm_values.specs.State.{Placed}
-use Rattle.section_laws.specs.Within.{IsWithin, AreWithin}
+use Rattle.section_laws.specs.Within.{AreWithin}
 use Rattle.asm_place.specs.Instructions.{with_more, IsContinued, Grows, StandsAt}
 use Rattle.asm_place.specs.CodePlaces.{FieldInCode, blanked, field_in, CodeStandsAt}
 use Rattle.asm_place.specs.JumpPlaces.{JumpStandsAt}

@@ -42,10 +42,11 @@ ValuesAreAlone = (map : SymbolMap) (sections : LaidSections) (number value : ℕ
 
 -- how many bytes the last of so many items has
 abbrev pub size_before : List LaidItem → ℕ → ℕ
-size_before items count = option_map_or (λ (item : LaidItem). item.size) (slice_get items (count - 1)) 0
+size_before items count =
+    option_map_or (λ (item : LaidItem). item.size) (slice_get items (count - 1)) 0
 
--- in a section that is laid out, a plain byte before or after a field over plain bytes is beside it; and
--- each plain byte is beside a field that stands in the last bytes of an item
+-- in a section that is laid out, a plain byte before or after a field over plain bytes is beside it;
+-- and each plain byte is beside a field that stands in the last bytes of an item
 pub record FieldsStandBeside : Type 0 where
   pub plain : (section : SectionOf LaidItem) (field : Field) (item offset : ℕ)
       → placed_section section ≡ section → CountsItems section.fields section.items field
@@ -90,4 +91,5 @@ BytesStandBeside = (symbols : SymbolMap) (sections : LooseSections) (laid : Laid
     → AreBetween section.items item offset (offset + 1)
     → All (IsBeside offset (offset + 1)) section.fields
     → All (HoldsRelocated symbols laid number kept) kept.fields
-    → All (IsBesideRelocation (moved kept.items item offset)) (section_relocations symbols laid number kept)
+    → All (IsBesideRelocation (moved kept.items item offset))
+    (section_relocations symbols laid number kept)

@@ -1,4 +1,4 @@
--- Fields and items within the plain bytes of their section, in order, and how fields count the items before them.
+-- Fields and items within the plain bytes of their section, in order; fields count the items.
 use Rattle.std.specs.Prelude.{◌≡◌, ◌≤◌, ℕ, suc, true, List, All, Option, Some, length, take, drop, slice_get}
 use Rattle.asm_base.specs.declared.positions.Pos.{Pos}
 use Rattle.asm_expr.specs.Forms.{Form}
@@ -58,7 +58,8 @@ AreWithin sections = All IsWithin sections
 
 -- whatever is put into a section that is so, it stays so
 pub record PutsStayWithin : Type 0 where
-  pub run : (pos : Pos) (section : LooseSection) → IsWithin section → IsWithin (with_run pos section)
+  pub run : (pos : Pos) (section : LooseSection) → IsWithin section
+      → IsWithin (with_run pos section)
   pub bytes : (pos : Pos) (more : List ℕ) (section : LooseSection) → IsWithin section
       → IsWithin (with_bytes pos more section)
   pub field : (pos : Pos) (number : ℕ) (size : FieldSize) (role : FieldRole) (form : Form)
