@@ -42,7 +42,7 @@ fn put_last(nodes: &mut Vec<Node>, node: Node) -> Result<(), AllocError>
 }
 
 impl Graph {
-    ghost use Rattle.std.specs.Prelude.{◌≡◌, ◌<◌, length, slice_get, Some, false, IfOk};
+    ghost use Rattle.std.specs.Prelude.{◌≡◌, ◌<◌, ◌∷◌, [], length, slice_get, Some, false, IfOk, IfSome};
     ghost use Rattle.std.specs.Option.{option_map_or};
     ghost use Rattle.flow_graph.specs.Nodes.{nodes_of};
     ghost use Rattle.flow_graph.specs.Walks.{successors, IsInside};
@@ -103,6 +103,23 @@ impl Graph {
             },
         }
         items
+    }
+
+    /// The one item to which control may go from an item that is no jump, or none.
+    #[inline(always)]
+    #[tactic(auto, unfolding(crate::specs::Walks::successors))]
+    pub fn only(&self, item: usize) -> Option<usize>
+        requires { item < length self.now }
+        ensures { IfSome result (λ next. successors self.now item ≡ next ∷ []) }
+    {
+        let count = self.len();
+        let node = self.node(item);
+        let next = item + 1;
+        let goes_on = node.falls && next < count;
+        match node.target {
+            Some(_) => None,
+            None => { if goes_on { Some(next) } else { None } },
+        }
     }
 
     /// Whether the item may leave the function.

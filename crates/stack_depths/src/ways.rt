@@ -31,6 +31,12 @@ impl<'a> Edges for Ways<'a> {
     fn succ(&self, item: usize) -> ArrayVec<usize, 2> {
         self.graph.succ(item)
     }
+
+    #[inline(always)]
+    #[tactic(auto, using(crate::proofs::WayLemmas::row_of))]
+    fn only(&self, item: usize) -> Option<usize> {
+        self.graph.only(item)
+    }
 }
 
 /// The walks along the nodes of a graph are those along the lists of successors.

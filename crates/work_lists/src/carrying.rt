@@ -73,9 +73,9 @@ fn carry_again<A: Analysis>(
     Ok(())
 }
 
-/// Carries a state into item j, which waits then if anything changed there.
-#[inline(always)]
-pub(crate) fn carry<A: Analysis>(
+/// Carries a state into item j, which may have one, and waits then if anything changed there.
+#[inline(never)]
+fn carry_there<A: Analysis>(
     alloc: Global,
     analysis: &A,
     states: &mut Vec<Option<A::State>>,
@@ -96,5 +96,26 @@ pub(crate) fn carry<A: Analysis>(
             }
             carry_again(alloc, analysis, states, todo, j, out)
         }
+    }
+}
+
+/// Carries a state into item j, which waits then if anything changed there.
+#[inline(always)]
+pub(crate) fn carry<A: Analysis>(
+    alloc: Global,
+    analysis: &A,
+    states: &mut Vec<Option<A::State>>,
+    todo: &mut Vec<usize>,
+    j: usize,
+    out: &A::State,
+) -> Result<(), AllocError>
+    requires place { j < length states.old.items }
+    requires weight { (A.rules analysis.now).weight out.now ≤ (A.rules analysis.now).limit }
+    ensures { IfOk result (λ _. Carried (A.rules analysis.now) states.old.items states.new.items
+        todo.old.items todo.new.items j out.now) }
+{
+    match &states[j] {
+        None => carry_first(alloc, analysis, states, todo, j, out),
+        Some(_) => carry_there(alloc, analysis, states, todo, j, out),
     }
 }

@@ -7,21 +7,21 @@ ghost use Rattle.work_lists.specs.Exact.{AreExact};
 use crate::analyses::Analysis;
 use crate::carrying::carry;
 use crate::graphs::Edges;
-use crate::spreading::spread;
+use crate::spreading::spread_all;
 use asm_base::Steps;
 use std::alloc::{AllocError, Global};
 use std::sync::ledger::Ledger;
 
-/// Puts a state last, at once where there is room for it.
+/// Puts no state last, at once where there is room for it.
 #[inline(always)]
-fn put_last<S: Drop>(states: &mut Vec<Option<S>>, state: Option<S>) -> Result<(), AllocError>
-    ensures { IfOk result (λ _. states.new.items ≡ states.old.items ++ state ∷ []) }
+fn put_none<S: Drop>(states: &mut Vec<Option<S>>) -> Result<(), AllocError>
+    ensures { IfOk result (λ _. states.new.items ≡ states.old.items ++ None ∷ []) }
 {
     if states.len() < states.capacity() {
-        states.push_reserved(state);
+        states.push_reserved(None);
         return Ok(());
     }
-    states.push(state)?;
+    states.push(None)?;
     Ok(())
 }
 
@@ -32,7 +32,7 @@ fn none_yet<S: Drop>(alloc: Global, count: usize) -> Result<Vec<Option<S>>, Allo
 {
     let mut states = Vec::with_capacity(alloc, count)?;
     for item in 0..count {
-        put_last(&mut states, None)?;
+        put_none(&mut states)?;
     }
     Ok(states)
 }
@@ -63,15 +63,13 @@ pub fn flow<G: Edges, A: Analysis, L: Ledger>(
             None => {}
             Some(before) => {
                 let out = analysis.after(alloc, i, before)?;
-                let targets = graph.succ(i);
-                spread(
+                spread_all(
                     alloc,
                     graph,
                     analysis,
                     &mut states,
                     &mut todo,
                     i,
-                    targets.as_slice(),
                     &out,
                     steps,
                 )?;

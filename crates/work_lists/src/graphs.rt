@@ -1,6 +1,6 @@
 //! Graphs.
 
-ghost use Rattle.std.specs.Prelude.{◌≡◌, ◌<◌, ℕ, List, length};
+ghost use Rattle.std.specs.Prelude.{◌≡◌, ◌<◌, ◌∷◌, [], ℕ, List, IfSome, length};
 ghost use Rattle.work_lists.specs.Graphs.{row};
 
 use arrayvec::ArrayVec;
@@ -18,4 +18,9 @@ pub trait Edges {
     fn succ(&self, item: usize) -> ArrayVec<usize, 2>
         requires { item < length (rows self.now) }
         ensures { result.items ≡ row (rows self.now) item };
+
+    /// The one item to which an item leads, by a look at it, or none.
+    fn only(&self, item: usize) -> Option<usize>
+        requires { item < length (rows self.now) }
+        ensures { IfSome result (λ j. row (rows self.now) item ≡ j ∷ []) };
 }

@@ -38,16 +38,12 @@ index-requires g c =
     let l = i.long in let k = c.loop-i.states.ok.0 in
     omega arith
 
-pub succ-targets-requires : goal.succ-targets-requires
-succ-targets-requires g c =
+pub spread_all-requires-clause-place : goal.spread_all-requires-clause-place
+spread_all-requires-clause-place g c =
     waiting_inside (g.A.Analysis.rules c.args.analysis.now) (g.G.Edges.rows c.args.graph.now) c.loop-i.states.items c.loop-i.todo.items c.pop.new.self.items c.in-Some.i c.loop-i.invariant.searching c.in-Some.ensures.items
 
-pub spread-requires-clause-place : goal.spread-requires-clause-place
-spread-requires-clause-place g c =
-    waiting_inside (g.A.Analysis.rules c.args.analysis.now) (g.G.Edges.rows c.args.graph.now) c.loop-i.states.items c.loop-i.todo.items c.pop.new.self.items c.in-Some.i c.loop-i.invariant.searching c.in-Some.ensures.items
-
-pub spread-requires-clause-begun : goal.spread-requires-clause-begun
-spread-requires-clause-begun g c =
+pub spread_all-requires-clause-begun : goal.spread_all-requires-clause-begun
+spread_all-requires-clause-begun g c =
     let r = g.A.Analysis.rules c.args.analysis.now in
     let n = g.G.Edges.rows c.args.graph.now in
     let i = c.loop-i.invariant.searching in
@@ -62,8 +58,8 @@ loop-i-preserved g c =
     let n = g.G.Edges.rows c.args.graph.now in
     let popped = pop_pays r (length) n c.loop-i.states.items c.loop-i.todo.items c.pop.new.self.items c.in-Some.i c.in-Some.ensures.items in
     record {
-      searching = c.in_ok-spread-in-Some-index.ensures.searching;
-      paid = let a = c.loop-i.invariant.paid in let b = c.in_ok-spread-in-Some-index.ensures.paid in omega arith;
+      searching = c.in_ok-spread_all-in-Some-index.ensures.searching;
+      paid = let a = c.loop-i.invariant.paid in let b = c.in_ok-spread_all-in-Some-index.ensures.paid in omega arith;
     }
 
 pub returns-clause-exact : goal.returns-clause-exact
