@@ -1,4 +1,5 @@
 pub mod RankLemmas
+pub mod PlainLemmas
 pub mod RowLemmas
 pub mod ChangingLemmas
 pub mod TableLemmas

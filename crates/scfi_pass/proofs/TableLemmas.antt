@@ -160,3 +160,11 @@ own_next a j before row next reached e own = let P : StackRow → Type 0 = IsRow
 -- and its rules are held
 pub own_held : (a : Analyzed) (j : ℕ) (before row : StackRow) (next : Option StackRow) → row ≡ row_by before next → IsOwnRow a j (row_by before next) → IsHeld a j row
 own_held a j before row next e own = λ h. let P : StackRow → Type 0 = AreRules (a.facts j) in subst P (sym e) own.1
+
+-- an item whose row is the one before is behind it
+pub stays_next : (a : Analyzed) (j : ℕ) (row : StackRow) → a.reached j ≡ true → IsOwnRow a j row → IsNextRow a j row row
+stays_next a j row reached own = reached_next a j row row reached own.0
+
+-- and the rules are held
+pub stays_held : (a : Analyzed) (j : ℕ) (row : StackRow) → IsOwnRow a j row → IsHeld a j row
+stays_held a j row own = λ h. own.1

@@ -4,6 +4,7 @@ pub mod Rows
 pub mod Changing
 pub mod Faults
 pub mod Looking
+pub mod Plain
 pub mod Tables
 pub mod Synthesis
 pub mod Worked

@@ -59,7 +59,7 @@ pub(crate) fn first_changed(looked: &Looked) -> u8
     7
 }
 
-fn is_return(role: Role) -> bool
+pub(crate) fn is_return(role: Role) -> bool
     ensures { result ≡ spec.is_return role }
 {
     match role {
@@ -68,7 +68,7 @@ fn is_return(role: Role) -> bool
     }
 }
 
-fn is_above(distance: Option<u64>) -> bool
+pub(crate) fn is_above(distance: Option<u64>) -> bool
     ensures above { IsTrue result → spec.IsAbove distance }
     ensures other { IsFalse result → spec.IsAbove distance → ⊥ }
 {
@@ -169,6 +169,7 @@ fn is_beyond(distance: Option<u64>) -> bool
 }
 
 /// Whether a distance is beyond 2^30 either way.
+#[inline(always)]
 pub(crate) fn is_far(looked: &Looked) -> bool
     ensures far { IsTrue result → spec.IsFar (seen looked.now).known }
     ensures near { IsFalse result → spec.IsFar (seen looked.now).known → ⊥ }

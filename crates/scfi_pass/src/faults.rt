@@ -17,7 +17,8 @@ use asm_base::ScfiFault;
 use stack_depths::is_call;
 
 #[tactic(auto, using(crate::proofs::RankLemmas::clear_frame))]
-fn check_frame(looked: &Looked) -> Result<Cfa, ScfiFault>
+#[inline(always)]
+pub(crate) fn check_frame(looked: &Looked) -> Result<Cfa, ScfiFault>
     ensures told { IfErr result (IsToldAt (seen looked.now) 1) }
     ensures clear { OnOk result (IsClear (seen looked.now) 1) }
     ensures frame { IfOk result (λ cfa. cfa_of (seen looked.now).known ≡ Some cfa) }
@@ -155,7 +156,8 @@ fn check_use(looked: &Looked) -> Result<(), ScfiFault>
 }
 
 #[tactic(auto, using(crate::proofs::RankLemmas::clear_far))]
-fn check_far(looked: &Looked) -> Result<(), ScfiFault>
+#[inline(always)]
+pub(crate) fn check_far(looked: &Looked) -> Result<(), ScfiFault>
     ensures told { IfErr result (IsToldAt (seen looked.now) 11) }
     ensures clear { OnOk result (IsClear (seen looked.now) 11) }
 {

@@ -8,6 +8,7 @@ mod frames;
 mod item_ops;
 mod laws;
 mod looking;
+mod plain;
 mod registers;
 mod rows;
 mod rules;

@@ -57,7 +57,8 @@ fn held_row(cfa: Cfa, row: &StackRow) -> StackRow
     }
 }
 
-fn same_cfa(one: Cfa, other: Cfa) -> bool
+#[inline(always)]
+pub(crate) fn same_cfa(one: Cfa, other: Cfa) -> bool
     ensures { IsTrue result → one ≡ other }
 {
     if one.register != other.register {

@@ -15,6 +15,7 @@ use crate::checks::AT_EXIT;
 use crate::faults::checked;
 use crate::item_ops::ItemOp;
 use crate::looking::Looked;
+use crate::plain::keeps_row;
 use crate::rows::{Cfa, StackRow};
 use crate::rules::other_row;
 use crate::walked::{ItemFault, Walked};
@@ -39,6 +40,7 @@ fn entry_row() -> StackRow
 }
 
 /// An item, with what is known and stands there.
+#[inline(always)]
 fn look<'a>(walked: &Walked<'a>, place: usize) -> Looked<'a>
     requires { place < length walked.now.items.now }
     ensures item { slice_get walked.now.items.now place ≡ Some result.item }
@@ -112,9 +114,55 @@ fn put_row(
     }
 }
 
+/// Whether no fault is told at an item to which a walk leads, and the row before is its own, by a look at
+/// it.
+#[inline(always)]
+fn stays(walked: &Walked, place: usize, last: usize, row: &StackRow) -> bool
+    requires place { place < length walked.now.items.now }
+    requires held { IsHeld (analyzed walked.now) last row.now }
+    ensures sound { IsTrue result → IsSoundAt (analyzed walked.now) place }
+    ensures row { IsTrue result → IsOwnRow (analyzed walked.now) place row.now }
+{
+    if !is_held(walked, last, place) {
+        return false;
+    }
+    let looked = look(walked, place);
+    keeps_row(&looked, row)
+}
+
+/// Goes over an item to which a walk leads, whose row may be another than that before.
+#[inline(never)]
+#[tactic(auto, using(crate::proofs::TableLemmas::own_next, crate::proofs::TableLemmas::own_held))]
+fn take_other(
+    walked: &Walked,
+    place: usize,
+    last: usize,
+    row: &mut StackRow,
+    ops: &mut Vec<ItemOp>,
+) -> Result<usize, Refusal<ItemFault>>
+    requires place { place < length walked.now.items.now }
+    requires reached { reached_in walked.now.depths.now place ≡ true }
+    requires held { IsHeld (analyzed walked.now) last row.old }
+    ensures sound { IfOk result (λ _. IsSoundAt (analyzed walked.now) place) }
+    ensures row { IfOk result (λ _. IsNextRow (analyzed walked.now) place row.old row.new) }
+    ensures held { IfOk result (λ last. IsHeld (analyzed walked.now) last row.new) }
+    ensures ops { IfOk result (λ _. ops.new.items ≡ ops.old.items
+        ++ told place (differences (whole_row row.old) (whole_row row.new))) }
+    ensures fault { RefusesAt (analyzed walked.now) place result }
+{
+    match reached_row(walked, place, last, row) {
+        Err(refusal) => Err(refusal),
+        Ok(next) => match put_row(ops, place, row, next) {
+            Err(_) => Err(Refusal::NoMemory),
+            Ok(()) => Ok(place),
+        },
+    }
+}
+
 /// Goes over an item: the row is its own then, and the instructions lead to it. It tells the last item
 /// that was gone over.
-#[tactic(auto, using(crate::proofs::TableLemmas::own_next, crate::proofs::TableLemmas::own_held))]
+#[inline(always)]
+#[tactic(auto, using(crate::proofs::TableLemmas::stays_next, crate::proofs::TableLemmas::stays_held))]
 fn take(
     walked: &Walked,
     place: usize,
@@ -134,13 +182,10 @@ fn take(
     if !walked.depths.is_reached(place) {
         return Ok(last);
     }
-    match reached_row(walked, place, last, row) {
-        Err(refusal) => Err(refusal),
-        Ok(next) => match put_row(ops, place, row, next) {
-            Err(_) => Err(Refusal::NoMemory),
-            Ok(()) => Ok(place),
-        },
+    if stays(walked, place, last, row) {
+        return Ok(place);
     }
+    take_other(walked, place, last, row, ops)
 }
 
 /// The frame table of a function, or its first fault.

@@ -288,7 +288,7 @@ fn is_quiet_role(role: Role) -> bool
 /// Whether nothing is followed of an item, by a look at its role.
 #[inline(always)]
 #[tactic(auto, using(crate::proofs::QuietLemmas::quiet_followed))]
-pub(crate) fn is_quiet(effect: &Effect) -> bool
+pub fn is_quiet(effect: &Effect) -> bool
     ensures { IsTrue result → followed_by effect.now ≡ spec.nothing_followed }
 {
     if effect.written != 0 {

@@ -10,6 +10,6 @@ mod tables;
 mod values;
 mod word_passing;
 
-pub use changes::{is_below, overlaps, stack_after, stored_at};
+pub use changes::{is_below, is_quiet, overlaps, stack_after, stored_at};
 pub use tables::{FactTable, facts};
 pub use values::Span;
