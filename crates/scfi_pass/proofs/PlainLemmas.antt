@@ -1,11 +1,10 @@
-use Rattle.std.proofs.Common.{◌≡◌, ℕ, ◌<◌, ◌⊎◌, inl, inr, Bool, true, false, sym, ap, subst, ◌∙◌, arith}
+use Rattle.std.proofs.Common.{◌≡◌, ℕ, ◌<◌, inl, inr, false, sym, ap, subst, arith}
 use Rattle.insn_effects.specs.Followed.{Followed, followed_by}
-use Rattle.asm_base.specs.declared.faults.ScfiFault.{ScfiFault}
 use Rattle.asm_base.specs.declared.faults.ScfiFault.TheVariants as scfi
 use Rattle.stack_depths.specs.Distances.{distance_after}
-use Rattle.stack_facts.specs.Places.{stored_by, nothing_followed}
+use Rattle.stack_facts.specs.Places.{stored_by}
 use Rattle.stack_facts.specs.Facts.{is_touched}
-use Rattle.scfi_pass.specs.Faults.{Situation, IsTold, IsAbove, Overwrites, at_exit, rank_of, stack_after}
+use Rattle.scfi_pass.specs.Faults.{Situation, IsAbove, Overwrites, at_exit, stack_after}
 use Rattle.scfi_pass.specs.Looking.{IsClear}
 use Rattle.scfi_pass.specs.Plain.{IsPlain}
 use Rattle.scfi_pass.proofs.RankLemmas.{clear_return}

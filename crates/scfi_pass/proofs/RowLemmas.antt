@@ -11,7 +11,7 @@ use Rattle.scfi_pass.specs.Rows.{or_else, IsRuleOf, AreRules}
 use Rattle.scfi_pass.specs.declared.rows.StackRow.{StackRow}
 use Rattle.scfi_pass.specs.Looking.{IsClear}
 use Rattle.scfi_pass.proofs.RankLemmas.{clear_lost}
-use Rattle.scfi_pass.specs.Faults.{Situation, IsTold, IsLost, IsFirstOf, IsSound}
+use Rattle.scfi_pass.specs.Faults.{Situation, IsLost, IsFirstOf, IsSound}
 
 -- of the six registers a first one would have what one has
 least : (P : ℕ → Type 0) → ((k : ℕ) → is_saved k ≡ true → ((q : ℕ) → is_saved q ≡ true → q < k → P q → ⊥) → P k → ⊥) → (n q : ℕ) → q < n → is_saved q ≡ true → P q → ⊥

@@ -7,8 +7,7 @@ use Rattle.code_functions.specs.declared.items.CodeItem.{CodeItem}
 use Rattle.flow_graph.specs.declared.nodes.Node.{Node}
 use Rattle.stack_depths.specs.Distances.{Distances}
 use Rattle.scfi_pass.specs.declared.rows.Cfa.{Cfa}
-use Rattle.stack_facts.specs.Facts.{Fact, entry, slot, IsSlotOf}
-use Rattle.stack_facts.specs.Places.{below}
+use Rattle.stack_facts.specs.Facts.{Fact, entry, slot}
 use Rattle.scfi_pass.specs.declared.rows.StackRow.{StackRow}
 use Rattle.scfi_pass.specs.declared.item_ops.ItemOp.{ItemOp}
 use Rattle.scfi_pass.specs.Rows.{IsRow, IsRuleOf, AreRules, cfa_of, whole_row}

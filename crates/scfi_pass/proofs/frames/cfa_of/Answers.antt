@@ -1,4 +1,4 @@
-use Rattle.std.proofs.Common.{◌≡◌, None, sym, ap, ◌∙◌}
+use Rattle.std.proofs.Common.{sym, ap, ◌∙◌}
 use Rattle.stack_depths.specs.States.{distances_in}
 use Rattle.scfi_pass.specs.Rows.{low_by, stack_cfa}
 use Rattle.scfi_pass.proofs.RowLemmas.{first_cfa, next_cfa}
