@@ -1,0 +1,11 @@
+pub mod Acting
+pub mod Supporting
+pub mod Filling
+pub mod WorkedReads
+pub mod WorkedRuns
+pub mod WorkedTable
+pub mod Leading
+pub mod WorkedShown
+pub mod WorkedKept
+pub mod WorkedChanged
+pub mod WorkedBytes
