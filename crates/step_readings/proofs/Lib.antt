@@ -1,0 +1,10 @@
+pub mod Given
+pub mod RowFacts
+pub mod Fillings
+pub mod Movabs
+pub mod Obeying
+pub mod Nops
+pub mod Padding
+pub mod Jumps
+pub mod Holding
+pub mod Loading
