@@ -2,6 +2,7 @@
 mod SeenLemmas
 mod ItemLemmas
 mod LabelLemmas
+mod FrontLemmas
 mod FollowingLaws
 mod StandingLemmas
 mod StandingLaws

@@ -354,6 +354,18 @@ impl FollowingPlacer {
         placed(&mut self.statements, pos, tokens)
     }
 
+    /// The same, at once where it has none.
+    #[inline(always)]
+    fn follow_front(&mut self, pos: Pos, tokens: &[Token]) -> Result<(), Refusal<BoxedFault>>
+        ensures { Gives self.new result (stepped (at pos (map spelled tokens.now))
+            (λ before there. labels_begun pos (map spelled tokens.now) before) self.old) }
+    {
+        if tokens.len() == 0 {
+            return Ok(());
+        }
+        self.follow_labels(pos, tokens)
+    }
+
     /// A statement: its labels, and then what stands behind them.
     #[tactic(auto, unfolding(crate::specs::FollowedSource::statement_followed))]
     fn follow(&mut self, pos: Pos, tokens: &[Token]) -> Result<(), Refusal<BoxedFault>>
@@ -362,7 +374,7 @@ impl FollowingPlacer {
     {
         no_label_behind(tokens);
         let count = labels_length(tokens);
-        self.follow_labels(pos, &tokens[..count])?;
+        self.follow_front(pos, &tokens[..count])?;
         self.follow_body(pos, &tokens[count..])
     }
 
