@@ -1,0 +1,16 @@
+pub mod Lists
+pub mod CodeBytes
+pub mod Standing
+pub mod Views
+pub mod LoadedBytes
+pub mod Encoded
+pub mod WithoutOperands
+pub mod Shifts
+pub mod ItemBytes
+pub mod AlignmentPuts
+pub mod Aligning
+pub mod Holding
+pub mod Seeing
+pub mod Instructing
+pub mod Dispatching
+pub mod Joining
