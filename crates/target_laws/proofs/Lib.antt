@@ -1,0 +1,15 @@
+pub mod Sums
+pub mod Linking
+pub mod Distances
+pub mod LoneTerms
+pub mod Branching
+pub mod Elements
+pub mod ItemBytes
+pub mod JumpBytes
+pub mod JumpLoading
+pub mod Fitting
+pub mod JumpReading
+pub mod FieldValues
+pub mod BranchLoading
+pub mod LoneTargets
+pub mod BranchReading
