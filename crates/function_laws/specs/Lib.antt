@@ -1,0 +1,3 @@
+-- The definitions that contracts cite, in reading order.
+pub mod Tabled
+pub mod Recovered

@@ -1,0 +1,8 @@
+//! The functions of a source whose frame tables are worked out, in the bytes of their sections.
+#![tactic(auto)]
+
+mod recovered;
+mod tabled;
+
+pub use recovered::function_tables_recover;
+pub use tabled::functions_are_tabled;
