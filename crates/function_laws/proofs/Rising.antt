@@ -48,7 +48,7 @@ place_up laid number first second up =
 -- OF STATEMENTS
 
 -- where a section ends that is there
-end_there : (sections : List LooseSection) (number : ℕ) (section : LooseSection) → slice_get sections number ≡ Some section
+pub end_there : (sections : List LooseSection) (number : ℕ) (section : LooseSection) → slice_get sections number ≡ Some section
     → end_of sections number ≡ record { item = length section.items; offset = length section.bytes }
 unfolding spot_at
 end_there sections number section there = ap (λ o. (option_map_or (spot_in number) o (no_spot number)).place.place) there
@@ -97,19 +97,26 @@ module _ (steps : Steps) (statements : List TokenStatement) (no_warn asked : Boo
   abbrev first : FollowedSource
   first = nothing_followed no_warn asked
 
-  -- an item begins no later than it ends
-  put_up : (item : SeenItem) (from to : Place) → IsPutBy statements first section item from to → IsUpTo from to
-  put_up item from to by =
+  -- the section is there before the statement of an item
+  pub there_before : (item : SeenItem) (from to : Place) (by : IsPutBy statements first section item from to)
+      → (held : LooseSection) × (slice_get by.before.placed.sections section ≡ Some held)
+  there_before item from to by =
       let before = by.before.placed in
       let stand = steps.stand (front by.statement ∷ []) before by.labels (one_placed (front by.statement) before by.labels by.labels_are)
       (steps.stand _ (nothing_placed no_warn) before (steps.followed by.earlier first by.before by.before_is) (steps.stand_first no_warn)) in
       let rest = back by.statement in
       let found = section_found (place_of by.statement) by.labels by.after.placed stand section item (body_of rest.tokens) rest.tokens by.put in
-      let there = subst (λ (sections : List LooseSection). slice_get sections section ≡ Some found.0) (steps.labels by.statement before by.labels by.labels_are).sections found.1 in
+      (found.0, subst (λ (sections : List LooseSection). slice_get sections section ≡ Some found.0) (steps.labels by.statement before by.labels by.labels_are).sections found.1)
+
+  -- an item begins no later than it ends
+  put_up : (item : SeenItem) (from to : Place) → IsPutBy statements first section item from to → IsUpTo from to
+  put_up item from to by =
+      let before = by.before.placed in
+      let held = there_before item from to by in
       let grows = steps.grow _ before by.after.placed (steps.followed (by.statement ∷ []) by.before by.after (one_followed by.statement by.before by.after by.after_is)) in
       subst (λ (p : Place). IsUpTo p to) (sym by.start)
       (subst (λ (p : Place). IsUpTo (end_of before.sections section) p) (sym by.stop)
-      (end_up before.sections by.after.placed.sections section found.0 there (grows.kept section found.0 there)))
+      (end_up before.sections by.after.placed.sections section held.0 held.1 (grows.kept section held.0 held.1)))
 
   -- from the beginning over the items to the end
   pub joined_up : (items : List CodeItem) (from to : Place) → AreJoined statements first section (map seen items) from to

@@ -1,3 +1,4 @@
 -- The definitions that contracts cite, in reading order.
 pub mod Tabled
 pub mod Recovered
+pub mod Addresses
