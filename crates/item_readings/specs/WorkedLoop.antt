@@ -17,9 +17,11 @@ loop_function distances reached facts = record {
   facts = facts;
 }
 
+-- the no-operation has one byte, and the jump two
 abbrev pub loop_kind : ℕ → Kind
 loop_kind i = if i == 0 then plain 1 else plain 2
 
+-- where each begins, and the end after both
 abbrev pub loop_start : ℕ → ℕ
 loop_start i = if i == 0 then 0 else (if i == 1 then 1 else 3)
 

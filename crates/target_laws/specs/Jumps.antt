@@ -56,10 +56,11 @@ pub record IsLoadedSection (symbols : SymbolMap) (sections : LooseSections) (lai
   pub loaded : IsLoaded (image_of symbols laid) (section_offset symbols laid number)
       (whole_size kept) (section_relocations symbols laid number kept) code
 
--- the place of a jump that is put where these statements end, and how many bytes it has
+-- the place of a jump that is put where these statements end
 abbrev pub jump_place : LaidSections → Placed → ℕ
 jump_place laid before = place_in laid before.current before.sections
 
+-- how many bytes it has
 abbrev pub jump_length : LaidSections → Placed → ℕ
 jump_length laid before = size_at (items_in laid before.current) (items_so_far before)
 
