@@ -55,10 +55,6 @@ distance_form map distance =
     plus_times (joined false (symbol_form (mark_number map distance.to)) (constant_form distance.plus)) (2 ^ 64 - 1)
     (symbol_form (mark_number (with_mark map distance.to) distance.from))
 
--- the place has no label
-abbrev pub IsNew : SymbolMap → SectionPlace → Type 0
-IsNew map at = index_of (place_name at) (names map.symbols) ≡ None
-
 -- the form of a distance between marks with two symbols: the one counts once, and the other minus once
 abbrev pub HaveTwoTerms : Type 0
 HaveTwoTerms = (map : SymbolMap) (distance : Distance)

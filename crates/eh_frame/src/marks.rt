@@ -62,35 +62,24 @@ fn spot_of(at: SectionPlace, number: u32) -> Spot
     }
 }
 
-/// A label for a place, put last. One symbol more than there may be is refused as want of memory.
-#[tactic(auto, using(crate::proofs::LabelLemmas::label_made, crate::proofs::LabelLemmas::label_number))]
-fn new_label(symbols: &mut Symbols, at: SectionPlace, name: &Name) -> Result<SymId, FragFault>
-    requires name { name.now ≡ spec.place_name at }
-    requires new { spec.IsNew symbols.old at }
-    ensures ok { OnOk result (symbols.new ≡ spec.with_label symbols.old at) }
-    ensures id { IfOk result (λ id. id ≡ number_of symbols.old (spec.place_name at)) }
-    ensures memory { IfErr result (λ fault. fault ≡ NoMemory) }
-{
-    let Ok(id) = symbols.name_of(name) else {
-        return Err(FragFault::NoMemory);
-    };
-    match symbols.define(id, Definition::Label(spot_of(at, id.index()))) {
-        Ok(()) => Ok(id),
-        Err(_) => Err(FragFault::NoMemory),
-    }
-}
-
-/// The label of a place, which is put last if there is none.
-#[tactic(auto, unfolding(crate::specs::Marks::with_label, asm_symbols::specs::Interning::number_of))]
+/// The label of a place, which is put last if there is none. One symbol more than there may be is
+/// refused as want of memory.
+#[tactic(auto, using(crate::proofs::LabelLemmas::label_known, crate::proofs::LabelLemmas::label_made, crate::proofs::LabelLemmas::label_number))]
 fn label(symbols: &mut Symbols, at: SectionPlace) -> Result<SymId, FragFault>
     ensures ok { OnOk result (symbols.new ≡ spec.with_label symbols.old at) }
     ensures id { IfOk result (λ id. id ≡ number_of symbols.old (spec.place_name at)) }
     ensures memory { IfErr result (λ fault. fault ≡ NoMemory) }
 {
-    let name = place_name(at);
-    match symbols.find(&name) {
-        Some(id) => Ok(id),
-        None => new_label(symbols, at, &name),
+    let known = symbols.len();
+    let Ok(id) = symbols.name_of(&place_name(at)) else {
+        return Err(FragFault::NoMemory);
+    };
+    if (id.index() as usize) < known {
+        return Ok(id);
+    }
+    match symbols.define(id, Definition::Label(spot_of(at, id.index()))) {
+        Ok(()) => Ok(id),
+        Err(_) => Err(FragFault::NoMemory),
     }
 }
 
