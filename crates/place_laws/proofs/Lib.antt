@@ -8,3 +8,4 @@ pub mod Standing
 pub mod Sizes
 pub mod Aligning
 pub mod Jumping
+pub mod LowLayouts

@@ -4,3 +4,4 @@ pub mod Branches
 pub mod Statements
 pub mod Alignments
 pub mod Jumps
+pub mod Low

@@ -1,8 +1,9 @@
 //! Where sections end.
 
 ghost use Rattle.place_laws.specs.Ends.{EndsAdd, EndsAreAddresses, EndsAreSizes, EndsMove, LayoutsKeepItems};
+ghost use Rattle.place_laws.specs.Low.{LayoutsAreLow};
 
-use asm_relax::{layouts_keep_sections, sizes_add_up};
+use asm_relax::{layouts_keep_sections, rows_rise, sizes_add_up};
 
 /// What is put into a section moves its end by its size in the layout.
 pub fn ends_move()
@@ -37,4 +38,13 @@ pub fn ends_are_sizes()
 {
     layouts_keep_sections();
     sizes_add_up();
+}
+
+/// Where fields and items stand within their bytes, the items of a layout stand after fewer than
+/// 2^64 plain bytes, and no row is moved by as many.
+pub fn layouts_are_low()
+    ensures { LayoutsAreLow }
+{
+    layouts_keep_sections();
+    rows_rise();
 }
