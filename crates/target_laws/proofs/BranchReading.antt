@@ -1,7 +1,7 @@
 -- What is read where a branch is loaded does what its item may do.
-use Rattle.std.proofs.Common.{◌≡◌, ℕ, ◌+◌, ◌-◌, ◌%◌, ◌^◌, ◌<◌, ◌||◌, ◌⊎◌, inl, inr, true, false, List, [], ◌∷◌, ◌++◌, Option, Some, None, Ok, take, drop, length, refl, sym, ap, ◌∙◌, subst, arith, take-append-drop, length-drop}
-use Rattle.std.specs.Prelude.{Bool, ◌==◌, slice_get, slice_range, IfSome}
-use Rattle.std.specs.Option.{option_map_or, option_and_then}
+use Rattle.std.proofs.Common.{◌≡◌, ℕ, ◌+◌, ◌-◌, ◌%◌, ◌^◌, ◌<◌, ◌⊎◌, true, false, List, [], ◌∷◌, ◌++◌, Some, None, take, drop, length, refl, sym, ap, ◌∙◌, subst, arith, take-append-drop, length-drop}
+use Rattle.std.specs.Prelude.{Bool, slice_get, slice_range, IfSome}
+use Rattle.std.specs.Option.{option_map_or}
 use Rattle.std.proofs.lemmas.List.{length-take}
 use Rattle.asm_base.specs.Tokens.{SpelledToken}
 use Rattle.asm_base.specs.declared.positions.Pos.{Pos}
@@ -12,20 +12,10 @@ use Rattle.asm_frags.specs.Substituting.{substituted_field}
 use Rattle.assigned_forms.specs.Linked.{linked}
 use Rattle.x86_insn.specs.declared.amounts.FieldKind.TheVariants as kind
 use Rattle.x86_insn.specs.declared.amounts.Suffix.TheVariants.{Plt}
-use Rattle.x86_insn.specs.declared.amounts.Values.{Values}
-use Rattle.x86_insn.specs.declared.insns.Slot.{Slot}
-use Rattle.x86_insn.specs.declared.insns.Slot.TheVariants as slot
-use Rattle.x86_table.specs.declared.mnemonics.integers.TheConstants.{CALL, HLT, JMP, RET, UD2}
-use Rattle.insn_effects.specs.Decoding.{is_branch}
-use Rattle.x86_insn.specs.Views.{Seen, absent, target, View}
+use Rattle.x86_insn.specs.Views.{Seen, target, View}
 use Rattle.x86_encode.specs.declared.encoded.Field.{Field as CodedField}
-use Rattle.x86_encode.specs.declared.encoded.Position.{Position}
-use Rattle.x86_encode.specs.declared.encoded.Position.TheVariants as position
-use Rattle.x86_encode.specs.Answers.{Placed as FieldsPlaced}
-use Rattle.x86_encode.specs.Codes.{meant}
-use Rattle.x86_encode.specs.EncodingLaws.{EncodingsPlace, EncodingsNote}
-use Rattle.x86_encode.specs.FieldPlaces.{AreApart, Apart, EncodingsApart, lacks_number, any_operand, HoldUnknown, Unknown, EncodingsHoldUnknown}
-use Rattle.x86_encode.specs.Filling.{Coding, FieldAt, field_holds, kind_holds, in_memory, operand_in, low_bytes as bytes_of_low, valued}
+use Rattle.x86_encode.specs.FieldPlaces.{AreApart, Apart, EncodingsApart}
+use Rattle.x86_encode.specs.Filling.{Coding, field_holds, kind_holds, low_bytes as bytes_of_low, valued}
 use Rattle.insn_effects.specs.Flows.{jumps, flow_of}
 use Rattle.x86_steps.specs.Leading.{distance_of}
 use Rattle.step_readings.specs.Filled.{IsPlain, IsPlainView}
@@ -42,17 +32,16 @@ use Rattle.asm_relax.specs.Settling.{LaidSections}
 use Rattle.asm_relax.specs.ValueRanges.{ValuesAreInRange}
 use Rattle.att_insns.specs.InsnTexts.{InsnText}
 use Rattle.asm_values.specs.State.{Placed}
-use Rattle.asm_place.specs.Coding.{shape_in, view_in, values_in, seen_in, field_size, from_own_place, displacement_field, immediate_field, before_fields}
+use Rattle.asm_place.specs.Coding.{shape_in, view_in, values_in, field_size, from_own_place, displacement_field, immediate_field, before_fields}
 use Rattle.asm_place.specs.CodePlaces.{FieldInCode, ValueForms, code_fields, field_in}
 use Rattle.asm_place.specs.Instructions.{next_item, next_offset}
 use Rattle.place_laws.specs.Branches.{IsBranchTo, Leads, BranchesLead}
 use Rattle.target_laws.specs.Targets.{NamesNoField, AreExpandable, place_address, BranchesToItem, TargetsAreItems}
 use Rattle.target_laws.specs.Jumps.{jump_place, jump_kind, AreStarts, IsItemAt}
-use Rattle.target_laws.specs.Branches.{IsBranchLoaded, branch_field, IsBranchItem, BranchesAreRead}
+use Rattle.target_laws.specs.Branches.{HoldsTargetAlone, TargetsAreAlone, IsBranchLoaded, branch_field, IsBranchItem, BranchesAreRead}
 use Rattle.target_laws.proofs.BranchLoading.{Facts, number, own, at, field_is, field_kept, place_is, address_is, loaded_byte}
 use Rattle.target_laws.proofs.Elements.{get_drop, get_take, begins_with, take_front}
-use Rattle.target_laws.proofs.LoneTargets.{target_alone}
-use Rattle.target_laws.proofs.Fitting.{jump_fits, has_target}
+use Rattle.target_laws.proofs.Fitting.{jump_fits}
 use Rattle.target_laws.proofs.FieldValues.{low_same, low_length, branch_holds, same_width}
 use Rattle.target_laws.proofs.JumpBytes.{held_low, layout_fine}
 use Rattle.target_laws.proofs.JumpReading.{address_low, read_item}
@@ -64,69 +53,18 @@ pub record Laws : Type 0 where
   pub ranges : ValuesAreInRange
   pub lead : BranchesLead
   pub apart : EncodingsApart
-  pub places : EncodingsPlace
-  pub unknown : EncodingsHoldUnknown
-  pub notes : EncodingsNote
+  pub alone : TargetsAreAlone
   pub values : coded.LoadedHaveValues
   pub reads : LoadedItemsAreRead
 
 -- A TARGET ALONE
 
--- a target that is written is not known
-target_there : (text : InsnText) (values : Values) (there : Slot) (distance : Option ℕ) → seen_in text values there ≡ target distance → seen_in text values there ≡ target None
-target_there text values slot.Absent distance is = absurd cc
-target_there text values (slot.Register r) distance is = absurd cc
-target_there text values slot.Immediate distance is = absurd cc
-target_there text values slot.Memory distance is = absurd cc
-target_there text values slot.Target distance is = refl
-
--- what a branch has first
-branch_first : (text : InsnText) (forms : ValueForms) (falls : Bool) → flow_of (view_in text (values_in forms)) ≡ jumps falls → (view_in text (values_in forms)).first ≡ target None
-branch_first text forms falls goes =
-    let name = text.name.0 in
-    let first = seen_in text (values_in forms) text.first in
-    let found = has_target (name == JMP) (is_branch name) (name == CALL) (name == RET) ((name == UD2) || (name == HLT)) first falls goes in
-    target_there text (values_in forms) text.first found.0 found.1
-
-module _ (text : InsnText) (forms : ValueForms) (first_is : (view_in text (values_in forms)).first ≡ target None)
-    (others : ((view_in text (values_in forms)).second ≡ absent) × ((view_in text (values_in forms)).third ≡ absent)) where
-  abbrev view : View
-  view = view_in text (values_in forms)
-
-  second_is : view.second ≡ absent
-  second_is = others.0
-
-  third_is : view.third ≡ absent
-  third_is = others.1
-
-  plain_view : IsPlainView view
-  plain_view = record {
-    first = subst IsPlain (sym first_is) refl;
-    second = subst IsPlain (sym second_is) tt;
-    third = subst IsPlain (sym third_is) tt;
-  }
-
-  none_in_memory : (p : Position) → in_memory (operand_in (meant view) p) ≡ false
-  none_in_memory position.First = ap in_memory first_is
-  none_in_memory position.Second = ap in_memory second_is
-  none_in_memory position.Third = ap in_memory third_is
-
-  none_lacks : any_operand lacks_number (meant view) ≡ false
-  none_lacks =
-      ap (λ (o : Seen). lacks_number o || (lacks_number view.second || lacks_number view.third)) first_is
-      ∙ ap (λ (o : Seen). lacks_number o || lacks_number view.third) second_is ∙ ap lacks_number third_is
-
-  -- so there is no displacement,
-  no_displacement : (found : Option CodedField) → FieldAt in_memory (meant view) found → found ≡ None
-  no_displacement None at = refl
-  no_displacement (Some field) at = absurd (let none = none_in_memory field.position in cc)
-
-  -- and the other field is that of a distance
-  branch_kind : (made : Coding) (field : CodedField) → HoldUnknown (meant view) made → made.immediate ≡ Some field → field.kind ≡ kind.Branch
-  branch_kind made field unknown is = elim (unknown.immediate field is) [
-    | inl branch ↦ branch
-    | inr lacks ↦ absurd (let none = none_lacks in cc)
-  ]
+plain_view : (view : View) (made : Coding) → HoldsTargetAlone view made → IsPlainView view
+plain_view view made alone = record {
+  first = subst IsPlain (sym alone.first) refl;
+  second = subst IsPlain (sym alone.second) tt;
+  third = subst IsPlain (sym alone.third) tt;
+}
 
 -- the field of a distance
 abbrev distance_field : InsnText → ValueForms → Coding → CodedField → FieldInCode
@@ -179,23 +117,23 @@ module _ (laws : Laws) (symbols : SymbolMap) (laid : LaidSections) (pos : Pos) (
   abbrev goal_target : Target
   goal_target = item_target symbols before.current fields items item
 
-  first_is : insn.first ≡ target None
-  first_is = branch_first text forms falls goes
+  alone : HoldsTargetAlone insn made
+  alone = laws.alone text (values_in forms) made falls goes is.put.coded.coding
 
-  others : (insn.second ≡ absent) × (insn.third ≡ absent)
-  others = target_alone laws.notes (view_in text) (values_in forms) made is.put.coded.coding first_is
+  first_is : insn.first ≡ target None
+  first_is = alone.first
+
+  abbrev field : CodedField
+  field = alone.field
+
+  some : made.immediate ≡ Some field
+  some = alone.immediate
+
+  branch_is : field.kind ≡ kind.Branch
+  branch_is = alone.kind
 
   apart : AreApart made
   apart = subst Apart is.put.coded.coding (laws.apart (view_in text) (values_in forms))
-
-  places : FieldsPlaced (meant insn) (Ok made)
-  places = subst (FieldsPlaced (meant insn)) is.put.coded.coding (laws.places (view_in text) (values_in forms))
-
-  unknown : HoldUnknown (meant insn) made
-  unknown = subst (Unknown (meant insn)) is.put.coded.coding (laws.unknown (view_in text) (values_in forms))
-
-  no_moved : made.displacement ≡ None
-  no_moved = no_displacement text forms first_is others made.displacement places.0
 
   node_is : node ≡ node_by (flow_of insn) goal_target
   node_is = branch.node_is ∙ ap (λ f. node_by f goal_target) branch.shows.flow
@@ -216,8 +154,8 @@ module _ (laws : Laws) (symbols : SymbolMap) (laid : LaidSections) (pos : Pos) (
   read_with : (w : ℕ) → w < 2 ^ 64 → field_holds made.immediate w ≡ true → coded.HoldsValue made.immediate w loaded
       → ReadsItemOnly insn item node starts code place loaded (distance_of (valued size 0 w insn.first))
   read_with w small hold there =
-      laws.reads (view_in text) (values_in forms) made item node starts loaded code (drop size (drop place code)) 0 w place (plain_view text forms first_is others) is.put.coded.coding is.loaded small
-      (ap (λ d. field_holds d 0) no_moved) hold (subst (λ d. coded.HoldsValue d 0 loaded) (sym no_moved) tt) there stands item_of
+      laws.reads (view_in text) (values_in forms) made item node starts loaded code (drop size (drop place code)) 0 w place (plain_view insn made alone) is.put.coded.coding is.loaded small
+      (ap (λ d. field_holds d 0) alone.displacement) hold (subst (λ d. coded.HoldsValue d 0 loaded) (sym alone.displacement) tt) there stands item_of
 
   -- with whatever a linker has put there
   any : coded.HasValue made.immediate loaded
@@ -242,15 +180,12 @@ module _ (laws : Laws) (symbols : SymbolMap) (laid : LaidSections) (pos : Pos) (
 
   -- A BRANCH TO A LABEL INSIDE
 
-  module _ (field : CodedField) (some : made.immediate ≡ Some field) (label : ℕ) (inside : goal_target ≡ Inside label false) where
+  module _ (label : ℕ) (inside : goal_target ≡ Inside label false) where
     abbrev held : FieldInCode
     held = distance_field text forms made field
 
-    branch_is : field.kind ≡ kind.Branch
-    branch_is = branch_kind text forms first_is others made field unknown some
-
     lone : code_fields text forms made ≡ held ∷ []
-    lone = lone_field text forms made field no_moved some branch_is
+    lone = lone_field text forms made field alone.displacement some branch_is
 
     last : (field.at + field.size ≡ size) × (width (field_size field.size) ≡ field.size)
     last =
@@ -380,25 +315,18 @@ module _ (laws : Laws) (symbols : SymbolMap) (laid : LaidSections) (pos : Pos) (
   read_outside : ((label : ℕ) → goal_target ≡ Inside label false → ⊥) → Goal
   read_outside none = finish any.value any_read (λ label inside to. absurd (none label inside))
 
-  by_target : (field : CodedField) → made.immediate ≡ Some field → (t : Target) → goal_target ≡ t → Goal
-  by_target field some (Inside label false) is_target = read_inside field some label is_target
-  by_target field some (Inside label true) is_target = read_outside (λ other inside. cc)
-  by_target field some Outside is_target = read_outside (λ other inside. cc)
-  by_target field some Unknown_target is_target = read_outside (λ other inside. cc)
-
-  by_field : (found : Option CodedField) → made.immediate ≡ found → Goal
-  by_field None none =
-      let nowhere : goal_target ≡ Unknown_target =
-      ap (λ f. option_map_or (field_target symbols before.current items) (option_and_then (slice_get fields) f) Unknown_target) (branch.holds_none none) in
-      read_outside (λ other inside. cc)
-  by_field (Some field) some = by_target field some goal_target refl
+  by_target : (t : Target) → goal_target ≡ t → Goal
+  by_target (Inside label false) is_target = read_inside label is_target
+  by_target (Inside label true) is_target = read_outside (λ other inside. cc)
+  by_target Outside is_target = read_outside (λ other inside. cc)
+  by_target Unknown_target is_target = read_outside (λ other inside. cc)
 
   pub read_branch : IsItemAt starts code place (jump_kind node.exits size) item node
   read_branch =
       let some = apart.behind in
       record {
         fits = jump_fits item node falls size (branch.shows.flow ∙ goes) (omega (arith, some));
-        reads_back = by_field made.immediate refl;
+        reads_back = by_target goal_target refl;
       }
 
 pub branches_are_read : Laws → BranchesAreRead

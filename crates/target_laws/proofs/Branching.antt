@@ -34,14 +34,14 @@ use Rattle.target_laws.proofs.LoneTerms.{alone, times_in, weighed_times, lone_te
 -- THE FORM
 
 -- a form that does not name its own place, less that
-less_place : (rest : Form) → NamesNoField rest → (from_own_place rest).terms ≡ rest.terms ++ term_of own_place (2 ^ 64 - 1) ∷ []
+pub less_place : (rest : Form) → NamesNoField rest → (from_own_place rest).terms ≡ rest.terms ++ term_of own_place (2 ^ 64 - 1) ∷ []
 unfolding plus_times with_terms
 less_place rest plain = last_term own_place rest.terms (2 ^ 64 - 1) refl plain
 
 wrapped_once : (n : ℕ) → wrapped (wrapped n) ≡ wrapped n
 wrapped_once n = omega arith
 
-less_constant : (rest : Form) → wrapped (from_own_place rest).constant ≡ (from_own_place rest).constant
+pub less_constant : (rest : Form) → wrapped (from_own_place rest).constant ≡ (from_own_place rest).constant
 unfolding plus_times
 less_constant rest = wrapped_once _
 
@@ -111,7 +111,7 @@ module _ (symbols : SymbolMap) (ordered : AreExpandable symbols) (target : Form)
   unfolding linked expanded expanded_within
   linked_is = refl
 
-  split : IsSplit symbols target
+  pub split : IsSplit symbols target
   split = split_by (names_assigned opened (from_own_place target)) linked_is
 
   -- THE ONE SYMBOL

@@ -12,4 +12,8 @@ pub mod JumpReading
 pub mod FieldValues
 pub mod BranchLoading
 pub mod LoneTargets
+pub mod TargetFields
 pub mod BranchReading
+pub mod OwnPlaces
+pub mod JumpRooms
+pub mod Suffixes

@@ -1,12 +1,16 @@
 -- Branches of functions whose distances are in fields over plain bytes, as those of the loop group.
-use Rattle.std.specs.Prelude.{◌≡◌, ◌+◌, ◌⊎◌, ℕ, Bool, List, None, Some, length, slice_get, slice_range}
+use Rattle.std.specs.Prelude.{◌≡◌, ◌+◌, ◌⊎◌, ℕ, Bool, List, Option, None, Some, Ok, length, slice_get, slice_range}
 use Rattle.std.specs.Option.{option_and_then}
 use Rattle.asm_base.specs.Tokens.{SpelledToken}
 use Rattle.asm_base.specs.declared.positions.Pos.{Pos}
 use Rattle.asm_symbols.specs.SymbolMap.{SymbolMap}
 use Rattle.asm_frags.specs.declared.fields.Field.{Field}
+use Rattle.x86_insn.specs.declared.amounts.FieldKind.TheVariants.{Branch}
 use Rattle.x86_insn.specs.declared.amounts.Suffix.TheVariants.{Plt}
+use Rattle.x86_insn.specs.declared.amounts.Values.{Values}
+use Rattle.x86_insn.specs.Views.{absent, target, View}
 use Rattle.x86_encode.specs.declared.encoded.Field.{Field as CodedField}
+use Rattle.x86_encode.specs.Encoding.{encoding_of}
 use Rattle.x86_encode.specs.Filling.{Coding}
 use Rattle.insn_effects.specs.Decoding.{action_of}
 use Rattle.insn_effects.specs.Effects.{effect_of}
@@ -25,6 +29,32 @@ use Rattle.asm_place.specs.Instructions.{next_item, next_offset}
 use Rattle.place_laws.specs.Jumps.{IsLowLater}
 use Rattle.target_laws.specs.Targets.{NamesNoField, AreExpandable}
 use Rattle.target_laws.specs.Jumps.{IsLoadedSection, AreStarts, IsItemAt, jump_place, jump_kind}
+
+-- WHAT THEY ARE
+
+-- an instruction from which control goes by a direct jump has a target first
+abbrev pub BranchesHaveTargets : Type 0
+BranchesHaveTargets = (insn : View) (falls : Bool) → flow_of insn ≡ jumps falls
+    → (distance : Option ℕ) × (insn.first ≡ target distance)
+
+-- the instruction has a target alone, which is not known, and its encoding a field alone, with the
+-- distance to the target
+pub record HoldsTargetAlone (insn : View) (made : Coding) : Type 0 where
+  pub first : insn.first ≡ target None
+  pub second : insn.second ≡ absent
+  pub third : insn.third ≡ absent
+  pub displacement : made.displacement ≡ None
+  pub field : CodedField
+  pub immediate : made.immediate ≡ Some field
+  pub kind : field.kind ≡ Branch
+
+-- so has each that is written and has an encoding
+abbrev pub TargetsAreAlone : Type 0
+TargetsAreAlone = (text : InsnText) (values : Values) (made : Coding) (falls : Bool)
+    → flow_of (view_in text values) ≡ jumps falls → encoding_of (view_in text) values ≡ Ok made
+    → HoldsTargetAlone (view_in text values) made
+
+-- WHAT IS READ WHERE THEY ARE LOADED
 
 -- an instruction that was put is loaded where the layout has a place for it, with any bytes in its
 -- fields
@@ -45,7 +75,7 @@ branch_field pos text forms made field before =
     (immediate_field (length made.bytes) (shape_in text) forms field)
 
 -- of a function in the current section, this is the item of the instruction, and its node: the item
--- has the field of the instruction, if that has one
+-- has the field of the instruction
 pub record IsBranchItem (symbols : SymbolMap) (fields : List Field) (items : List CodeItem)
     (pos : Pos) (tokens : List SpelledToken) (text : InsnText) (before : Placed)
     (coding : IsCoded pos tokens text before) (item : CodeItem) (node : Node) : Type 0 where
@@ -55,7 +85,6 @@ pub record IsBranchItem (symbols : SymbolMap) (fields : List Field) (items : Lis
   pub holds : (field : CodedField) → coding.made.immediate ≡ Some field
       → option_and_then (slice_get fields) item.field
       ≡ Some (branch_field pos text coding.forms coding.made field before)
-  pub holds_none : coding.made.immediate ≡ None → item.field ≡ None
   pub node_is : node ≡ node_of symbols before.current fields items item
 
 -- where an instruction of a function is loaded from which control goes by a direct jump, what is

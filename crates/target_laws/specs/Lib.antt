@@ -2,3 +2,4 @@
 pub mod Targets
 pub mod Jumps
 pub mod Branches
+pub mod Rooms

@@ -19,9 +19,7 @@ returns c =
       ranges = c.values_are_in_range.ensures;
       lead = c.branches_lead.ensures;
       apart = c.fields_stand_apart.ensures.places;
-      places = c.encodings_are_codes.ensures.positions;
-      unknown = c.fields_stand_apart.ensures.values;
-      notes = c.encodings_are_codes.ensures.notes;
+      alone = c.branches_have_targets.ensures.alone;
       values = c.loaded_bytes_obey.ensures.values;
       reads = c.items_are_read.ensures.loaded;
     })
