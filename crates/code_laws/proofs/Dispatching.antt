@@ -5,7 +5,6 @@ use Rattle.std.proofs.lemmas.Bool.Decides.{nat_tests}
 use Rattle.std.proofs.lemmas.Option.{none-some, same_Some}
 use Rattle.asm_base.specs.Refusals.{◌>>=◌}
 use Rattle.asm_base.specs.Tokens.{SpelledToken}
-use Rattle.asm_base.specs.declared.notes.Noted.{Noted}
 use Rattle.asm_base.specs.declared.positions.Pos.{Pos}
 use Rattle.asm_lines.specs.NextStatements.{TokenStatement}
 use Rattle.asm_symbols.specs.SymbolMap.{SymbolMap}
@@ -32,7 +31,7 @@ use Rattle.asm_place.specs.CodePlaces.{BeginsAsInstruction}
 use Rattle.asm_place.specs.Effects.{insn_view, fill_said}
 use Rattle.asm_place.specs.Instructions.{Grows}
 use Rattle.asm_place.specs.Placing.{place_by, place_found, place_directive, place_body, place_unlabelled, place_label, place_labelled, has_wide_label, place_tokens}
-use Rattle.asm_place.specs.Sources.{pos_at, located, place, place_all}
+use Rattle.asm_place.specs.Sources.{pos_at, place, place_all}
 use Rattle.code_functions.specs.declared.items.CodeItem.{CodeItem}
 use Rattle.code_functions.specs.Seen.{seen, data_item}
 use Rattle.flow_graph.specs.declared.nodes.Node.{Node}
@@ -48,6 +47,7 @@ use Rattle.code_laws.specs.Codes.{AreNumbered, IsNoJump}
 use Rattle.code_laws.specs.Instructions.{InstructionsAreLaid}
 use Rattle.code_laws.specs.Padding.{PadsCode, FillsWithNoOperations, AlignmentsAreLaid, DataAreLaid}
 use Rattle.code_laws.specs.Statements.{IsLaidIn, StatementsAreLaid}
+use Rattle.code_laws.proofs.Placing.{err-ok, tokens_placed, one_placed}
 
 -- what is known of each kind of item
 pub record Facts : Type 0 where
@@ -60,24 +60,6 @@ pub record Facts : Type 0 where
       → is_some (insn_view (pos_at s.file s.line) s.tokens before) ≡ true
 
 -- PLACING
-
-err-ok : {A E C : Type 0} (fault : E) (x : A) → ◌≡◌ {A = Result A E} (Err fault) (Ok x) → C
-err-ok fault x is = absurd (cc)
-
-same_Ok : {A E : Type 0} (x y : A) → ◌≡◌ {A = Result A E} (Ok x) (Ok y) → x ≡ y
-same_Ok x y is = ap (λ r. elim r [ Ok made ↦ made | Err fault ↦ x ]) is
-
-located_ok : (s : TokenStatement) (notes : List Noted) (answer : Result Placed PlaceCause) (placed : Placed) → located s notes answer ≡ Ok placed → answer ≡ Ok placed
-located_ok s notes (Ok more) placed is = ap Ok (same_Ok more placed is)
-located_ok s notes (Err cause) placed is = err-ok _ placed is
-
-tokens_placed : (s : TokenStatement) (before placed : Placed) → place s before ≡ Ok placed → place_tokens (pos_at s.file s.line) s.tokens before ≡ Ok placed
-unfolding place
-tokens_placed s before placed is = located_ok s before.notes (place_tokens (pos_at s.file s.line) s.tokens before) placed is
-
-one_placed : (s : TokenStatement) (before placed : Placed) → place s before ≡ Ok placed → place_all (s ∷ []) before ≡ Ok placed
-unfolding place_all
-one_placed s before placed is = ap (λ answer. answer >>= place_all []) is
 
 no_wide : (test : Bool) (fault : PlaceCause) (answer : Result Placed PlaceCause) (placed : Placed) → cond test (Err fault) answer ≡ Ok placed → answer ≡ Ok placed
 no_wide true fault answer placed is = err-ok fault placed is
@@ -124,13 +106,13 @@ insn_test false true true found is = absurd (cc)
 insn_test false true false found is = (refl, refl, refl)
 
 -- the tokens of an instruction
-record Begins (tokens : List SpelledToken) : Type 0 where
-  first : SpelledToken
-  rest : List SpelledToken
-  are : tokens ≡ first ∷ rest
-  begins : BeginsAsInstruction first rest
+pub record Begins (tokens : List SpelledToken) : Type 0 where
+  pub first : SpelledToken
+  pub rest : List SpelledToken
+  pub are : tokens ≡ first ∷ rest
+  pub begins : BeginsAsInstruction first rest
 
-begins_so : (tokens : List SpelledToken) → body_of tokens ≡ body.Instruction → Begins tokens
+pub begins_so : (tokens : List SpelledToken) → body_of tokens ≡ body.Instruction → Begins tokens
 begins_so [] is = absurd (cc)
 begins_so (first ∷ rest) is =
     let parts = insn_test (names_symbol first && is_assignment rest) (is_name first) (begins_with_dot first.bytes) (directive_of first.bytes) is in
@@ -152,7 +134,7 @@ pads false None is = absurd (cc)
 pads true (Some fill) is = let same : fill ≡ 144 = equal fill 144 is in ap (λ n. n % 2 ^ 8) same
 pads false (Some fill) is = absurd (cc)
 
-some_of : {X : Type 0} (found : Option X) → is_some found ≡ true → (x : X) × (found ≡ Some x)
+pub some_of : {X : Type 0} (found : Option X) → is_some found ≡ true → (x : X) × (found ≡ Some x)
 some_of None is = absurd (cc)
 some_of (Some x) is = (x, refl)
 

@@ -11,6 +11,8 @@ pub mod AlignmentPuts
 pub mod Aligning
 pub mod Holding
 pub mod Seeing
+pub mod Placing
 pub mod Instructing
 pub mod Dispatching
+pub mod JumpWriting
 pub mod Joining

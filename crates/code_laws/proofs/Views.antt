@@ -1,5 +1,5 @@
 -- What is seen of an instruction with operands where it is placed.
-use Rattle.std.proofs.Common.{◌≡◌, ℕ, Bool, true, false, cond, List, [], ◌∷◌, Option, Some, None, Result, Ok, Err, refl, ap, ◌∙◌}
+use Rattle.std.proofs.Common.{◌≡◌, ℕ, Bool, true, false, cond, List, [], ◌∷◌, Option, Some, None, Result, Ok, Err, refl, sym, ap, ◌∙◌}
 use Rattle.std.specs.Prelude.{◌&&◌, not}
 use Rattle.std.proofs.lemmas.Option.{none-some, same_Some}
 use Rattle.asm_base.specs.Refusals.{◌>>=◌}
@@ -23,6 +23,7 @@ use Rattle.asm_place.specs.Instructions.{behind_labels}
 use Rattle.asm_place.specs.CodePlaces.{ValueForms, text_read, insn_written, labelled, known_in}
 use Rattle.step_readings.specs.Filled.{IsPlain, IsPlainView}
 use Rattle.code_laws.specs.Codes.{IsNumbered, AreNumbered}
+use Rattle.code_laws.specs.Instructions.{EncodingsAreSeen}
 
 -- WITHOUT LABELS
 
@@ -77,6 +78,13 @@ pub seen_is : (pos : Pos) (tokens : List SpelledToken) (text : InsnText) (before
 seen_is pos tokens text before forms is made =
     ap (λ lone. view_coded pos lone (insn_by before.syntax tokens) before) is.lone
     ∙ (ap (λ read. view_coded pos None read before) is.read ∙ ap (view_formed (shape_in text)) made)
+
+-- so it is with the forms that are made behind no labels
+pub encodings_are_seen : EncodingsAreSeen
+encodings_are_seen pos tokens text before made none written =
+    let labels : made.labels ≡ before = same_Ok made.labels before (sym made.labels_are ∙ none_labelled pos tokens before none) in
+    seen_is pos tokens text before made.forms (written_is_read before.syntax tokens text written)
+    (ap (λ (there : Placed). forms_of (known_in pos text there) text.immediate.tree text.displacement.tree) (sym labels) ∙ made.forms_are)
 
 -- IT IS PLAIN
 

@@ -10,10 +10,13 @@ use Rattle.x86_lookup.specs.BareInstructions.{Coded}
 use Rattle.insn_effects.specs.Flows.{flow_of}
 use Rattle.asm_operands.specs.Operands.{begins_with_label}
 use Rattle.asm_values.specs.State.{Placed}
+use Rattle.att_insns.specs.InsnTexts.{InsnText}
+use Rattle.asm_place.specs.Coding.{view_in, values_in}
 use Rattle.asm_place.specs.Effects.{insn_view}
 use Rattle.asm_place.specs.Instructions.{instruction_written}
 use Rattle.asm_place.specs.Placing.{place_tokens}
-use Rattle.asm_place.specs.CodePlaces.{BeginsAsInstruction}
+use Rattle.asm_place.specs.CodePlaces.{BeginsAsInstruction, insn_written}
+use Rattle.asm_place.specs.JumpPlaces.{IsJump}
 use Rattle.code_functions.specs.declared.items.CodeItem.{CodeItem}
 use Rattle.flow_graph.specs.declared.nodes.Node.{Node}
 use Rattle.item_readings.specs.Items.{IsItemOf}
@@ -25,6 +28,13 @@ abbrev pub BareInstructionsAreSeen : Type 0
 BareInstructionsAreSeen = (pos : Pos) (tokens : List SpelledToken) (before : Placed) (coded : Coded)
     → instruction_written before.syntax tokens ≡ Some coded
     → insn_view pos tokens before ≡ Some coded.insn
+
+-- any other is seen with the values of its forms, where no label stands in front of it
+abbrev pub EncodingsAreSeen : Type 0
+EncodingsAreSeen = (pos : Pos) (tokens : List SpelledToken) (text : InsnText) (before : Placed)
+    (made : IsJump pos tokens text before) → begins_with_label tokens ≡ false
+    → insn_written before.syntax tokens ≡ Some text
+    → insn_view pos tokens before ≡ Some (view_in text (values_in made.forms))
 
 -- each statement that is placed as an instruction, with operands or without, in either syntax, is
 -- laid as the item of what is seen of it, if control does not go from it by a direct jump

@@ -7,3 +7,4 @@ pub mod Relocated
 pub mod Instructions
 pub mod Statements
 pub mod Functions
+pub mod Jumps

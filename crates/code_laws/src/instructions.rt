@@ -1,6 +1,6 @@
 //! Instructions of any kind.
 
-ghost use Rattle.code_laws.specs.Instructions.{BareInstructionsAreSeen, InstructionsAreLaid};
+ghost use Rattle.code_laws.specs.Instructions.{BareInstructionsAreSeen, EncodingsAreSeen, InstructionsAreLaid};
 
 use crate::bare::bare_instructions_are_laid;
 use crate::codes::encodings_are_laid;
@@ -13,6 +13,11 @@ pub fn bare_instructions_are_seen()
 {
     bare_codes_read();
 }
+
+/// What is seen of any other instruction has the values of its forms.
+pub fn encodings_are_seen()
+    ensures { EncodingsAreSeen }
+{}
 
 /// Each instruction that is no direct jump is laid as the item of what is seen of it: whatever is
 /// read where it is loaded does what the item may do.
