@@ -1,5 +1,5 @@
 -- Each item begins where its section ended before its statement, and so inside the section.
-use Rattle.std.proofs.Common.{◌≡◌, ℕ, zero, suc, ◌%◌, ◌<◌, ◌^◌, Bool, List, [], ◌∷◌, ◌++◌, All, map, None, Some, Result, Ok, Err, sym, ap, subst, ◌∙◌, arith}
+use Rattle.std.proofs.Common.{◌≡◌, ℕ, zero, suc, ◌%◌, ◌^◌, Bool, List, [], ◌∷◌, ◌++◌, All, map, None, Some, Result, Ok, Err, sym, ap, subst, ◌∙◌, arith}
 use Rattle.std.specs.Prelude.{slice_get, unwrap_or}
 use Rattle.std.specs.Option.{option_map_or}
 use Rattle.std.proofs.lemmas.Option.{none-some, same_Some}
@@ -22,6 +22,7 @@ use Rattle.place_laws.specs.Jumps.{SpotsAreAddresses}
 use Rattle.place_laws.specs.Statements.{PlacesAreInside}
 use Rattle.code_laws.specs.Functions.{laid_place}
 use Rattle.code_laws.specs.Sections.{IsLoadedLater}
+use Rattle.place_laws.specs.Low.{LayoutsAreLow}
 use Rattle.function_laws.specs.Tabled.{starts_of}
 use Rattle.function_laws.specs.Addresses.{StartsAreAddresses}
 use Rattle.function_laws.proofs.Elements.{All-there}
@@ -34,6 +35,7 @@ pub record Facts : Type 0 where
   pub steps : Steps
   pub inside : PlacesAreInside
   pub spots : SpotsAreAddresses
+  pub low : LayoutsAreLow
 
 -- both go on from the same answer
 both_from : {P : Type 0} (answer : Result FollowedSource FaultAt) (one other : FollowedSource → Result FollowedSource FaultAt) (before last : FollowedSource)
@@ -68,7 +70,7 @@ get_mapped look (y ∷ xs) (suc i) x there = get_mapped look xs i x there
 module _ (facts : Facts) (statements : List TokenStatement) (no_warn asked : Bool) (whole : FollowedSource) (number : ℕ) (symbols : SymbolMap) (laid : LaidSections) (code : List ℕ)
     (f : Recorded CodeItem) (index : ℕ) (item : CodeItem) (is : follow_all statements (nothing_followed no_warn asked) ≡ Ok whole)
     (there : slice_get (functions_at_end whole) number ≡ Some (mapped seen f)) (l : IsLoadedLater symbols laid f.section whole.placed.sections code)
-    (low : All (λ section. All (λ held. held.offset < 2 ^ 64) section.items) l.later) (item_there : slice_get f.items index ≡ Some item) where
+    (item_there : slice_get f.items index ≡ Some item) where
   abbrev first : FollowedSource
   first = nothing_followed no_warn asked
 
@@ -108,9 +110,9 @@ module _ (facts : Facts) (statements : List TokenStatement) (no_warn asked : Boo
   begins =
       ap (λ o. laid_place laid f.section (option_map_or (λ (x : CodeItem). x.place) o (unwrap_or f.stop f.start))) item_there
       ∙ at_end ∙ inside
-      ∙ sym (facts.spots symbols before laid f.section held.0 (record { later = l.later; grows = grows; is = l.is; low = low }) held.1)
+      ∙ sym (facts.spots symbols before laid f.section held.0 (record { later = l.later; grows = grows; is = l.is; low = facts.low.items symbols l.later laid l.is l.within }) held.1)
       ∙ ap (λ (p : Place). address_of laid f.section p.item p.offset) (sym put.1.start)
 
 pub starts_are_addresses : Facts → StartsAreAddresses
-starts_are_addresses facts statements no_warn asked whole number symbols laid code f index item is there l low item_there =
-    begins facts statements no_warn asked whole number symbols laid code f index item is there l low item_there
+starts_are_addresses facts statements no_warn asked whole number symbols laid code f index item is there l item_there =
+    begins facts statements no_warn asked whole number symbols laid code f index item is there l item_there

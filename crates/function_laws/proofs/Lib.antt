@@ -5,3 +5,5 @@ pub mod Rising
 pub mod Ended
 pub mod Tabling
 pub mod Beginning
+pub mod JumpPuts
+pub mod FollowedJumps

@@ -27,8 +27,9 @@ use Rattle.scfi_laws.specs.Laid.{Kind, IsLaid}
 use Rattle.scfi_laws.specs.Functions.{IsFunction}
 use Rattle.scfi_laws.specs.TableLaws.{StandsWith, IsTabled, TablesRecover, TablesRestore}
 use Rattle.code_laws.specs.Functions.{laid_place, JumpsAreLaid, FunctionsAreLaid}
-use Rattle.function_laws.specs.Tabled.{laid_address, starts_of, IsLoadedFunction, IsSynthesized, FunctionsAreTabled}
+use Rattle.function_laws.specs.Tabled.{laid_address, starts_of, fields_of, IsLoadedFunction, IsSynthesized, FunctionsAreTabled}
 use Rattle.function_laws.specs.Recovered.{FunctionTablesRecover}
+use Rattle.function_laws.specs.Jumping.{FunctionJumpsAreLaid}
 use Rattle.function_laws.proofs.Elements.{All-there, number_there, after_last}
 use Rattle.function_laws.proofs.Ended.{all_ended}
 use Rattle.function_laws.proofs.Rising.{Steps, place_up, joined_up, begins_there}
@@ -38,6 +39,7 @@ pub record Facts : Type 0 where
       → All (IsJoined statements (nothing_followed no_warn asked) f.placed.sections) (functions_at_end f)
   pub steps : Steps
   pub laid : FunctionsAreLaid
+  pub jumps : FunctionJumpsAreLaid
   pub inside : (symbols : SymbolMap) (section : ℕ) (fields : List Field) (items : List CodeItem) → AreItems symbols section fields items
 
 nodes_long : (symbols : SymbolMap) (section : ℕ) (fields : List Field) (items : List CodeItem) → length (nodes_of symbols section fields items) ≡ length items
@@ -51,10 +53,13 @@ some_place None one other item is = absurd (cc)
 some_place (Some x) one other item is = refl
 
 module _ (facts : Facts) (statements : List TokenStatement) (no_warn asked : Bool) (whole : FollowedSource) (number : ℕ) (symbols : SymbolMap) (laid : LaidSections) (code : List ℕ)
-    (fields : List Field) (f : Recorded CodeItem) (a : Analyzed) (ops : List ItemOp) (frame : Frame)
-    (is : IsLoadedFunction statements no_warn asked whole number symbols laid code f a) (made : IsSynthesized symbols fields f a ops frame) where
+    (f : Recorded CodeItem) (a : Analyzed) (ops : List ItemOp) (frame : Frame) (is : IsLoadedFunction statements no_warn asked whole number symbols laid code f)
+    (made : IsSynthesized symbols whole.placed.sections f a ops frame) where
   abbrev first : FollowedSource
   first = nothing_followed no_warn asked
+
+  abbrev fields : List Field
+  fields = fields_of whole.placed.sections f.section
 
   abbrev stop : Place
   stop = unwrap_or f.stop f.start
@@ -77,7 +82,8 @@ module _ (facts : Facts) (statements : List TokenStatement) (no_warn asked : Boo
       (facts.laid symbols laid statements no_warn asked whole a f.section fields f.start stop code is.is
       (subst (λ (items : List CodeItem). AreJoined statements first f.section (map seen items) f.start stop) (sym made.same_items) joined)
       made.same_nodes is.loaded is.numbered
-      (subst (λ (starts : ℕ → ℕ). JumpsAreLaid laid f.section statements first a starts code) (sym same) is.jumps))
+      (subst (λ (starts : ℕ → ℕ). JumpsAreLaid laid f.section statements first a starts code) (sym same)
+      (facts.jumps statements no_warn asked whole number symbols laid code f a is.is is.there is.loaded is.resolved made.same_items made.same_nodes)))
 
   function : IsFunction a
   function = record {
@@ -123,12 +129,12 @@ module _ (facts : Facts) (statements : List TokenStatement) (no_warn asked : Boo
   )
 
 pub functions_are_tabled : Facts → FunctionsAreTabled
-functions_are_tabled facts statements no_warn asked whole number symbols laid code fields f a ops frame is made =
-    tabled facts statements no_warn asked whole number symbols laid code fields f a ops frame is made
+functions_are_tabled facts statements no_warn asked whole number symbols laid code f a ops frame is made =
+    tabled facts statements no_warn asked whole number symbols laid code f a ops frame is made
 
 pub tables_recover : FunctionsAreTabled → TablesRecover → TablesRestore → FunctionTablesRecover
-tables_recover tabled_so recover restore statements no_warn asked whole number symbols laid code fields f a ops frame is made =
-    let t = tabled_so statements no_warn asked whole number symbols laid code fields f a ops frame is made in
+tables_recover tabled_so recover restore statements no_warn asked whole number symbols laid code f a ops frame is made =
+    let t = tabled_so statements no_warn asked whole number symbols laid code f a ops frame is made in
     record {
       kinds = t.0;
       lies = t.1.laid;

@@ -2,3 +2,4 @@
 pub mod Tabled
 pub mod Recovered
 pub mod Addresses
+pub mod Jumping

@@ -3,7 +3,6 @@
 use Rattle.std.specs.Prelude.{◌≡◌, ◌-◌, ℕ, Bool, true, List, length, Some, slice_get, IsSomeAnd}
 use Rattle.asm_lines.specs.NextStatements.{TokenStatement}
 use Rattle.asm_symbols.specs.SymbolMap.{SymbolMap}
-use Rattle.asm_frags.specs.declared.fields.Field.{Field}
 use Rattle.asm_relax.specs.Settling.{LaidSections}
 use Rattle.cfi_directives.specs.declared.frames.Frame.{Frame}
 use Rattle.cfi_directives.specs.Meant.{row_meant}
@@ -41,7 +40,7 @@ pub record RecoversInBytes (laid : LaidSections) (code : List ℕ) (f : Recorded
 abbrev pub FunctionTablesRecover : Type 0
 FunctionTablesRecover = (statements : List TokenStatement) (no_warn asked : Bool)
     (whole : FollowedSource) (number : ℕ) (symbols : SymbolMap) (laid : LaidSections)
-    (code : List ℕ) (fields : List Field) (f : Recorded CodeItem) (a : Analyzed)
-    (ops : List ItemOp) (frame : Frame)
-    → IsLoadedFunction statements no_warn asked whole number symbols laid code f a
-    → IsSynthesized symbols fields f a ops frame → RecoversInBytes laid code f a frame
+    (code : List ℕ) (f : Recorded CodeItem) (a : Analyzed) (ops : List ItemOp) (frame : Frame)
+    → IsLoadedFunction statements no_warn asked whole number symbols laid code f
+    → IsSynthesized symbols whole.placed.sections f a ops frame
+    → RecoversInBytes laid code f a frame

@@ -1,10 +1,13 @@
 -- Functions of a source that have frame tables, in their sections as a linker leaves these.
-use Rattle.std.specs.Prelude.{◌≡◌, ℕ, Bool, List, Some, Ok, slice_get, unwrap_or}
+use Rattle.std.specs.Prelude.{◌≡◌, ℕ, Bool, List, [], Some, Ok, slice_get, unwrap_or}
+use Rattle.std.specs.Option.{option_map_or}
 use Rattle.asm_base.specs.declared.places.SectionPlace.{SectionPlace}
 use Rattle.asm_lines.specs.NextStatements.{TokenStatement}
 use Rattle.asm_symbols.specs.SymbolMap.{SymbolMap}
 use Rattle.asm_frags.specs.declared.fields.Field.{Field}
-use Rattle.asm_relax.specs.Settling.{LaidSections}
+use Rattle.asm_frags.specs.Writing.{LooseSection}
+use Rattle.asm_relax.specs.Settling.{LooseSections, LaidSections}
+use Rattle.elf_object.specs.Objects.{object_of}
 use Rattle.cfi_directives.specs.declared.frames.Frame.{Frame}
 use Rattle.code_functions.specs.declared.items.CodeItem.{CodeItem}
 use Rattle.code_functions.specs.Recorded.{Recorded}
@@ -17,8 +20,9 @@ use Rattle.scfi_pass.specs.Tables.{Analyzed, IsAnalyzed}
 use Rattle.synthesis_laws.specs.TableFrames.{IsFrameOf}
 use Rattle.scfi_laws.specs.Laid.{Kind}
 use Rattle.scfi_laws.specs.TableLaws.{IsTabled}
-use Rattle.code_laws.specs.Functions.{laid_place, starts_in, InsnsAreNumbered, JumpsAreLaid}
+use Rattle.code_laws.specs.Functions.{laid_place, starts_in, InsnsAreNumbered}
 use Rattle.code_laws.specs.Sections.{IsLoadedLater}
+use Rattle.target_laws.specs.Rooms.{StandIn}
 
 -- where a place is in the layout of its section
 abbrev pub laid_address : LaidSections → SectionPlace → ℕ
@@ -29,26 +33,38 @@ laid_address laid at = laid_place laid at.section at.place
 abbrev pub starts_of : LaidSections → Recorded CodeItem → ℕ → ℕ
 starts_of laid f = starts_in laid f.section f.items (unwrap_or f.stop f.start)
 
+-- the fields of the section of this number
+abbrev pub fields_of : List LooseSection → ℕ → List Field
+fields_of sections number =
+    option_map_or (λ section. section.fields) (slice_get sections number) []
+
+-- the symbols stand in these sections, whose layout has an object
+pub record IsResolved (symbols : SymbolMap) (sections : LooseSections) (laid : LaidSections)
+    : Type 0 where
+  pub stand : StandIn symbols sections
+  pub object : List ℕ
+  pub is : object_of symbols laid ≡ Ok object
+
 -- the statements of a source are followed, the function is that of this number at their end, and
--- these are the bytes of its section as a linker leaves it. Asked besides: a number that is known
--- in an instruction has 64 bits, and the direct jumps of the function are laid as its items
+-- these are the bytes of its section as a linker leaves it. Asked besides: the symbols stand in the
+-- sections of the layout, which has an object, and a number that is known in an instruction has
+-- 64 bits
 pub record IsLoadedFunction (statements : List TokenStatement) (no_warn asked : Bool)
     (whole : FollowedSource) (number : ℕ) (symbols : SymbolMap) (laid : LaidSections)
-    (code : List ℕ) (f : Recorded CodeItem) (a : Analyzed) : Type 0 where
+    (code : List ℕ) (f : Recorded CodeItem) : Type 0 where
   pub is : follow_all statements (nothing_followed no_warn asked) ≡ Ok whole
   pub there : slice_get (functions_at_end whole) number ≡ Some (mapped seen f)
   pub loaded : IsLoadedLater symbols laid f.section whole.placed.sections code
+  pub resolved : IsResolved symbols loaded.later laid
   pub numbered : InsnsAreNumbered statements (nothing_followed no_warn asked)
-  pub jumps : JumpsAreLaid laid f.section statements (nothing_followed no_warn asked) a
-      (starts_of laid f) code
 
--- it is analyzed with the nodes of its graph, by the fields of its section; these instructions are
--- its frame table, and those of the procedure
-pub record IsSynthesized (symbols : SymbolMap) (fields : List Field) (f : Recorded CodeItem)
-    (a : Analyzed) (ops : List ItemOp) (frame : Frame) : Type 0 where
+-- it is analyzed with the nodes of its graph, by the fields that its section has at the end of the
+-- source; these instructions are its frame table, and those of the procedure
+pub record IsSynthesized (symbols : SymbolMap) (sections : List LooseSection)
+    (f : Recorded CodeItem) (a : Analyzed) (ops : List ItemOp) (frame : Frame) : Type 0 where
   pub analyzed : IsAnalyzed a
   pub same_items : a.items ≡ f.items
-  pub same_nodes : a.nodes ≡ nodes_of symbols f.section fields a.items
+  pub same_nodes : a.nodes ≡ nodes_of symbols f.section (fields_of sections f.section) a.items
   pub old : ℕ
   pub new : ℕ
   pub table : IsTableOf f.items a.nodes old new ops
@@ -59,9 +75,8 @@ pub record IsSynthesized (symbols : SymbolMap) (fields : List Field) (f : Record
 abbrev pub FunctionsAreTabled : Type 0
 FunctionsAreTabled = (statements : List TokenStatement) (no_warn asked : Bool)
     (whole : FollowedSource) (number : ℕ) (symbols : SymbolMap) (laid : LaidSections)
-    (code : List ℕ) (fields : List Field) (f : Recorded CodeItem) (a : Analyzed)
-    (ops : List ItemOp) (frame : Frame)
-    → IsLoadedFunction statements no_warn asked whole number symbols laid code f a
-    → IsSynthesized symbols fields f a ops frame
+    (code : List ℕ) (f : Recorded CodeItem) (a : Analyzed) (ops : List ItemOp) (frame : Frame)
+    → IsLoadedFunction statements no_warn asked whole number symbols laid code f
+    → IsSynthesized symbols whole.placed.sections f a ops frame
     → (kinds : ℕ → Kind)
     × IsTabled f a ops frame (laid_address laid) kinds (starts_of laid f) code

@@ -4,7 +4,7 @@ ghost use Rattle.function_laws.specs.Addresses.{StartsAreAddresses};
 
 use asm_functions::{following_is_placing, items_are_joined};
 use asm_place::{labels_change_symbols, places_stand, placing_grows};
-use place_laws::{places_are_inside, spots_are_addresses};
+use place_laws::{layouts_are_low, places_are_inside, spots_are_addresses};
 
 /// Each item of a function begins at the address that its place has in the layout.
 pub fn starts_are_addresses()
@@ -17,4 +17,5 @@ pub fn starts_are_addresses()
     labels_change_symbols();
     places_are_inside();
     spots_are_addresses();
+    layouts_are_low();
 }

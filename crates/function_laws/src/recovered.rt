@@ -6,8 +6,7 @@ use crate::tabled::functions_are_tabled;
 use scfi_laws::tables_recover;
 
 /// Along each kept execution over the bytes of its section as a linker leaves it, the frame table of a
-/// function recovers the caller, if the function's direct jumps are laid as its items; and at exits
-/// the registers that calls keep are as at entry.
+/// function recovers the caller; and at exits the registers that calls keep are as at entry.
 pub fn function_tables_recover()
     ensures { FunctionTablesRecover }
 {

@@ -14,4 +14,5 @@ returns c =
       };
       inside = c.places_are_inside.ensures;
       spots = c.spots_are_addresses.ensures;
+      low = c.layouts_are_low.ensures;
     })

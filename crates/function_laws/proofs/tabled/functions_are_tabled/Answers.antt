@@ -13,5 +13,6 @@ returns c =
         labels = c.labels_change_symbols.ensures;
       };
       laid = c.functions_are_laid.ensures;
+      jumps = c.function_jumps_are_laid.ensures;
       inside = c.successors_are_items.ensures;
     })
