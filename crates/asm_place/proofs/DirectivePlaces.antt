@@ -61,13 +61,15 @@ use Rattle.asm_uses.specs.Tables.{with_name, with_tree}
 use Rattle.asm_words.specs.declared.directives.InitialSection.{InitialSection}
 use Rattle.asm_words.specs.declared.directives.InitialSection.TheVariants as initially
 use Rattle.asm_place.specs.SymbolPlaces.{AreUpTo, IsGiven, SymbolsStand, PlacesStand}
+use Rattle.asm_place.proofs.ForwardForms.{LeadsAreFound}
 use Rattle.asm_place.proofs.GivenNames.{names_given, kind_given, tree_given}
 use Rattle.asm_place.proofs.NamedSymbols.{form_up}
+use Rattle.asm_place.proofs.OwnFields.{entered_fields}
 use Rattle.asm_place.proofs.SectionSteps.{entered_adds}
 use Rattle.asm_place.proofs.SymbolTables.{Allows, named_both, allows_on, with_name_stand, tree_stand, change_stand, named_change_stand, assigned_stand, kind_stand, say_all_stand, sized_stand, allowed_stand, define_space_stand, end_stand, file_stand}
 use Rattle.asm_place.proofs.KnownWalks.{AreAsked, given_walk, known_walk}
 use Rattle.asm_place.proofs.FramePlaces.{frame_walk}
-use Rattle.asm_place.proofs.PlaceSteps.{count, Gains, Stays, Closes, Walks, grown_twice, stays_on, closes_on, closed, walked, unmoved, items_grow, sections_stay, table_stays, table_gains, table_closes, current_stays, notes_close, notes_stay, syntax_stays, names_gain, spot_stands, table_walk, table_close, bytes_walk, field_walk, push_walk, growing_walk, section_walk, pushed_walk, popped_walk}
+use Rattle.asm_place.proofs.PlaceSteps.{count, Gains, Stays, Closes, Walks, grown_twice, stays_on, closes_on, closed, walked, unmoved, items_grow, sections_stay, table_stays, table_gains, table_closes, current_stays, notes_close, notes_stay, syntax_stays, names_gain, spot_stands, both_fine, table_walk, table_close, bytes_walk, field_walk, push_walk, growing_walk, section_walk, pushed_walk, popped_walk}
 
 -- DATA AND SPACE
 
@@ -167,7 +169,7 @@ org_walk pos tokens placed stands =
 
 number_walk : (pos : Pos) (signed : Bool) (terms : List Term) (form : Form) (placed : Placed) → PlacesStand placed → Walks placed (put_number_by terms pos signed form placed)
 number_walk pos signed [] form placed stands = bytes_walk pos placed.current (least_leb128 signed form.constant) placed stands
-number_walk pos signed (term ∷ terms) form placed stands = growing_walk pos placed.current (Leb128 signed) None form placed stands
+number_walk pos signed (term ∷ terms) form placed stands = growing_walk pos placed.current (Leb128 signed) None form placed (λ branch. absurd cc) stands
 
 numbers_walk : (pos : Pos) (signed : Bool) (forms : List Form) (placed : Placed) → PlacesStand placed → Walks placed (put_numbers pos signed forms placed)
 unfolding put_numbers all_steps
@@ -248,10 +250,10 @@ form_stands sections map spot tree stand = by (form_in (known_at map spot) tree)
     by (Ok form) is = made form (form_up sections map spot tree form stand is)
     by (Err fault) is = refused fault
 
-assign_walk : (pos : Pos) (once : Bool) (words : NamedTree) → IsGiven words.name → (placed : Placed) → PlacesStand placed
+assign_walk : LeadsAreFound → (pos : Pos) (once : Bool) (words : NamedTree) → IsGiven words.name → (placed : Placed) → PlacesStand placed
     → Walks placed (assign_words pos once words placed)
 unfolding assign_words
-assign_walk pos once words given placed stands =
+assign_walk leads pos once words given placed stands =
     let named = with_words pos words placed in
     let names = words_gain pos words given placed stands in
     closed placed named _ names
@@ -259,19 +261,19 @@ assign_walk pos once words given placed stands =
     (λ form few. table_close (count placed) named (changed_by (λ map index. assigned map index form once) (named.table, words_symbol words placed) >>= end_words pos (words_naming words placed) form named)
     names.stands
     (step (change_stand named.sections (λ map index. assigned map index form once) (named.table, words_symbol words placed)
-    (assigned_stand named.sections form once named.table.symbols (words_symbol words placed) few))
+    (assigned_stand named.sections leads form once named.table.symbols (words_symbol words placed) few))
     (λ next kept. allows_on named.sections (count placed) named.table next kept
     (end_stand named.sections pos (words_naming words placed) (here named) (uses_place (known_here named).place form) next
     (λ last. spot_stands named.sections named.current names.stands.current))))))
 
-set_walk : (pos : Pos) (once : Bool) (tokens : List SpelledToken) (placed : Placed) → PlacesStand placed → Walks placed (place_set pos once tokens placed)
+set_walk : LeadsAreFound → (pos : Pos) (once : Bool) (tokens : List SpelledToken) (placed : Placed) → PlacesStand placed → Walks placed (place_set pos once tokens placed)
 unfolding place_set
-set_walk pos once tokens placed stands = step (tree_given (operands_of tokens)) (λ words given. assign_walk pos once words given placed stands)
+set_walk leads pos once tokens placed stands = step (tree_given (operands_of tokens)) (λ words given. assign_walk leads pos once words given placed stands)
 
-pub assignment_walk : (pos : Pos) (token : SpelledToken) (tokens : List SpelledToken) (placed : Placed) → PlacesStand placed → Walks placed (place_assignment pos token tokens placed)
+pub assignment_walk : LeadsAreFound → (pos : Pos) (token : SpelledToken) (tokens : List SpelledToken) (placed : Placed) → PlacesStand placed → Walks placed (place_assignment pos token tokens placed)
 unfolding place_assignment
-assignment_walk pos token tokens placed stands =
-    after (symbol_name token) (λ name. after (expression_of tokens) (λ tree. assign_walk pos false (record { name = naming.Plain name; tree = tree }) tt placed stands))
+assignment_walk leads pos token tokens placed stands =
+    after (symbol_name token) (λ name. after (expression_of tokens) (λ tree. assign_walk leads pos false (record { name = naming.Plain name; tree = tree }) tt placed stands))
 
 -- space for symbols
 with_space_walk : (pos : Pos) (naming : Naming) (symbol size log : ℕ) (placed : Placed) → PlacesStand placed
@@ -345,8 +347,9 @@ lcomm_walk pos tokens placed stands =
 ident_walk : (pos : Pos) (tokens : List SpelledToken) (placed : Placed) → PlacesStand placed → Walks placed (place_ident pos tokens placed)
 unfolding place_ident
 ident_walk pos tokens placed stands =
-    after (one_string tokens) (λ text. step (entered_adds placed.sections (codes ".comment") comment_header)
-    (λ pair adds. let more = sections_stay placed pair.0 adds.grows stands in
+    after (one_string tokens)
+    (λ text. step (both_fine _ (entered_adds placed.sections (codes ".comment") comment_header) (entered_fields (count placed) placed.sections (codes ".comment") comment_header))
+    (λ pair has. let more = sections_stay placed pair.0 has.0.grows has.1 stands in
     stays_on placed (record placed { sections = pair.0 }) _ more
     (bytes_walk pos pair.1 (comment_bytes (items_in pair.0 pair.1) text) (record placed { sections = pair.0 }) more.stands)))
 
@@ -391,7 +394,7 @@ initial_few initially.Text = omega arith
 initial_few initially.Data = omega arith
 initial_few initially.Bss = omega arith
 
-module _ (frames : FramesKeep) where
+module _ (frames : FramesKeep) (leads : LeadsAreFound) where
   by_walk : (found : Directive) (pos : Pos) (tokens : List SpelledToken) (placed : Placed) → PlacesStand placed → Walks placed (place_by found pos tokens placed)
   unfolding place_by
   by_walk (directive.Data size) pos tokens placed stands = data_walk pos size tokens placed stands
@@ -413,7 +416,7 @@ module _ (frames : FramesKeep) where
   by_walk (directive.Say attribute) pos tokens placed stands = said_walk pos attribute tokens placed stands
   by_walk directive.Type pos tokens placed stands = type_walk pos tokens placed stands
   by_walk directive.Size pos tokens placed stands = size_walk pos tokens placed stands
-  by_walk (directive.Assign once) pos tokens placed stands = set_walk pos once tokens placed stands
+  by_walk (directive.Assign once) pos tokens placed stands = set_walk leads pos once tokens placed stands
   by_walk directive.Comm pos tokens placed stands = comm_walk pos tokens placed stands
   by_walk directive.Lcomm pos tokens placed stands = lcomm_walk pos tokens placed stands
   by_walk directive.Ident pos tokens placed stands = ident_walk pos tokens placed stands

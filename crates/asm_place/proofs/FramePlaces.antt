@@ -67,6 +67,7 @@ only_stays pos placed after stands only =
         first = stands.first;
         symbols = names.stands.symbols;
         procedures = lines_stand placed only.lines only.procedures stands only.taken;
+        fields = names.stands.fields;
       };
       fits = λ fit. allows.few (λ le. names.alike le fit);
     }

@@ -1,19 +1,16 @@
 -- The targets of direct jumps name symbols that are there.
-use Rattle.std.proofs.Common.{◌≡◌, ◌≤◌, List, ◌∷◌, Some, Ok, sym, ap, ◌∙◌, subst, arith}
+use Rattle.std.proofs.Common.{◌≡◌, ◌≤◌, List, ◌∷◌, Some, Ok, sym, ap, ◌∙◌, arith}
 use Rattle.std.proofs.lemmas.Result.{IfOk-at_ok}
 use Rattle.asm_base.specs.Refusals.{◌>>=◌}
 use Rattle.asm_base.specs.Tokens.{SpelledToken}
 use Rattle.asm_base.specs.declared.positions.Pos.{Pos}
 use Rattle.asm_lines.specs.NextStatements.{TokenStatement}
-use Rattle.asm_expr.specs.Forms.{Form}
 use Rattle.asm_expr.specs.Trees.{Tree}
-use Rattle.asm_operands.specs.Expressions.{form_in}
 use Rattle.asm_uses.specs.Tables.{naming_of}
-use Rattle.asm_values.specs.State.{Placed, with_names, here, known_here}
+use Rattle.asm_values.specs.State.{Placed, with_names}
 use Rattle.att_insns.specs.InsnTexts.{InsnText}
-use Rattle.asm_place.specs.declared.codes.InsnForms.{InsnForms}
 use Rattle.amount_forms.specs.Amounts.{in_text_order}
-use Rattle.asm_place.specs.Coding.{shape_in, forms_of, place_insn, place_text}
+use Rattle.asm_place.specs.Coding.{shape_in, place_insn, place_text}
 use Rattle.asm_place.specs.Placing.{has_wide_label, place_unlabelled, place_labelled, place_tokens}
 use Rattle.asm_place.specs.Sources.{pos_at, place, place_all}
 use Rattle.asm_place.specs.Instructions.{behind_labels}
@@ -21,22 +18,13 @@ use Rattle.asm_place.specs.CodePlaces.{insn_written, insn_in, labelled}
 use Rattle.asm_place.specs.JumpPlaces.{IsJump}
 use Rattle.asm_place.specs.SymbolPlaces.{AreUpTo, PlacesStand}
 use Rattle.asm_place.proofs.Walks.{FramesKeep}
-use Rattle.asm_place.proofs.StatementSplits.{same_Ok, both_ok}
 use Rattle.asm_place.proofs.InstructionLaws.{wide_ok, located_ok, first_placed}
 use Rattle.asm_place.proofs.CodeLaws.{labels_split, behind_is}
-use Rattle.asm_place.proofs.NamedSymbols.{up_to_more, form_up}
+use Rattle.asm_place.proofs.ForwardForms.{LeadsAreFound}
+use Rattle.asm_place.proofs.NamedSymbols.{up_to_more}
+use Rattle.asm_place.proofs.TargetForms.{displacement_up}
 use Rattle.asm_place.proofs.PlaceSteps.{count, Closes, names_gain}
 use Rattle.asm_place.proofs.PlaceWalk.{trees_walk, labels_walk, statements_walk, kept_by}
-
--- the form of the displacement names symbols that are there, or the next one
-displacement_up : (named : Placed) (own moved : Tree) (forms : InsnForms) → PlacesStand named → forms_of (known_here named) own moved ≡ Ok forms
-    → AreUpTo (count named) forms.displacement.terms
-displacement_up named own moved forms stands is =
-    both_ok (form_in (known_here named) own) _ forms is (λ one one_is more.
-    both_ok (form_in (known_here named) moved) _ forms more (λ other other_is made.
-    let same : other ≡ forms.displacement = ap (λ (f : InsnForms). f.displacement) (same_Ok _ forms made) in
-    subst (λ (f : Form). AreUpTo (count named) f.terms) same
-    (form_up named.sections named.table.symbols (here named) moved other stands.symbols other_is)))
 
 -- where the labels in front of an instruction are placed, the rest of its statement is
 rest_is : (pos : Pos) (tokens : List SpelledToken) (text : InsnText) (placed labels next : Placed) → insn_written placed.syntax (behind_labels tokens) ≡ Some text
@@ -47,7 +35,7 @@ rest_is pos tokens text placed labels next written labels_are is =
     let behind = sym (ap (λ r. r >>= place_unlabelled pos (behind_labels tokens)) labels_are) ∙ whole in
     sym (behind_is pos tokens text placed labels labels_are written) ∙ behind
 
-module _ (frames : FramesKeep) (s : TokenStatement) (later : List TokenStatement) (placed whole : Placed) (text : InsnText) (stands : PlacesStand placed)
+module _ (frames : FramesKeep) (leads : LeadsAreFound) (s : TokenStatement) (later : List TokenStatement) (placed whole : Placed) (text : InsnText) (stands : PlacesStand placed)
     (jump : IsJump (pos_at s.file s.line) s.tokens text placed) where
   abbrev trees : List Tree
   trees = in_text_order jump.labels.syntax text.immediate.tree text.displacement.tree
@@ -69,7 +57,7 @@ module _ (frames : FramesKeep) (s : TokenStatement) (later : List TokenStatement
       let rest = rest_is pos s.tokens text placed jump.labels next written jump.labels_are tokens in
       let naming = naming_of trees jump.labels.table in
       let first = IfOk-at_ok (Closes naming.before named) rest (trees_walk pos (shape_in text) naming text.immediate.tree text.displacement.tree named named_stands).holds in
-      let last = kept_by next whole (place_all later next) later_is (statements_walk frames later next first.stands) in
+      let last = kept_by next whole (place_all later next) later_is (statements_walk frames leads later next first.stands) in
       let more = first.more in
       let still = last.more in
       omega (arith, more, still)

@@ -22,8 +22,11 @@ mod JumpLaws
 mod NamedSymbols
 mod GivenNames
 mod SymbolLimits
+mod ForwardForms
 mod SymbolTables
+mod OwnFields
 mod PlaceSteps
+mod TargetForms
 mod KnownWalks
 mod FramePlaces
 mod DirectivePlaces

@@ -196,7 +196,7 @@ told_up sections map' index made stand is = by (slice_get map'.symbols index) re
     by None there is = absurd cc
     by (Some symbol) there is =
         told_up_by sections (length map'.symbols) symbol.meaning (is_weak symbol.binding) made
-        (All-there (SymbolStands sections (length map'.symbols)) map'.symbols index symbol there stand).0 is
+        (All-there (SymbolStands sections (length map'.symbols)) map'.symbols index symbol there stand.each).0 is
 
 -- at a place no symbol is known behind the next one
 pub knows_up : (sections : List LooseSection) (map' : SymbolMap) (spot : Spot) → SymbolsStand sections map'.symbols → KnowsUpTo (length map'.symbols) (known_at map' spot)

@@ -45,8 +45,11 @@ use Rattle.cfi_directives.specs.declared.frames.Frame.{Frame}
 use Rattle.cfi_directives.specs.declared.frames.PlacedOp.{PlacedOp}
 use Rattle.cfi_directives.specs.Meant.{stop_of}
 use Rattle.cfi_directives.specs.Procedures.{frames_of}
-use Rattle.asm_place.specs.SymbolPlaces.{HasItems, MeaningStands, SymbolStands, ProcedureStands, PlacesStand}
+use Rattle.x86_insn.specs.declared.amounts.FieldKind.TheVariants.{Branch}
+use Rattle.asm_frags.specs.Fields.{growth_role}
+use Rattle.asm_place.specs.SymbolPlaces.{HasItems, HoldsTarget, FieldsAreOwn, MeaningStands, SymbolStands, ProcedureStands, PlacesStand}
 use Rattle.asm_place.proofs.GrowthLemmas.{All-there, continued_on}
+use Rattle.asm_place.proofs.OwnFields.{KeepsOwn, fields_more, there_fields, bytes_own, field_own, growing_own, entered_fields}
 use Rattle.asm_place.proofs.SectionSteps.{there_adds, entered_adds}
 use Rattle.asm_place.proofs.SymbolLimits.{AreFit}
 use Rattle.asm_place.proofs.SymbolTables.{Names, Tables, Allows, trees_stand, allowed_stand}
@@ -141,7 +144,7 @@ pub walked : {E : Type 0} (before : Placed) {r : Result Placed E} {f : Placed �
 walked before {f = f} first later = step first (λ x stays. stays_on before x (f x) stays (later x stays.stands))
 
 -- what two laws say of one answer
-both_fine : {A E : Type 0} {P Q : A → Type 0} (r : Result A E) → Fine P r → Fine Q r → Fine (λ x. P x × Q x) r
+pub both_fine : {A E : Type 0} {P Q : A → Type 0} (r : Result A E) → Fine P r → Fine Q r → Fine (λ x. P x × Q x) r
 both_fine (Ok x) one other = made x (one.holds, other.holds)
 both_fine (Err fault) one other = refused fault
 
@@ -179,8 +182,9 @@ abbrev pub EntryStands : List LooseSection → Entered → Type 0
 EntryStands sections entered = HasItems sections entered.current 0 × HasItems sections entered.previous 0
 
 -- sections alone grow
-pub sections_stay : (placed : Placed) (sections : List LooseSection) → Grows placed.sections sections → PlacesStand placed → Stays placed (record placed { sections = sections })
-sections_stay placed sections grows stands = record {
+pub sections_stay : (placed : Placed) (sections : List LooseSection) → Grows placed.sections sections → (FieldsAreOwn (count placed) placed.sections → FieldsAreOwn (count placed) sections)
+    → PlacesStand placed → Stays placed (record placed { sections = sections })
+sections_stay placed sections grows keeps stands = record {
   grows = grows;
   more = omega arith;
   stands = record {
@@ -190,9 +194,13 @@ sections_stay placed sections grows stands = record {
         (λ entered was. (items_grow placed.sections sections entered.current 0 grows was.0, items_grow placed.sections sections entered.previous 0 grows was.1))
         placed.stack stands.stack;
     first = λ number few. items_grow placed.sections sections number 0 grows (stands.first number few);
-    symbols = All-weaker (SymbolStands placed.sections (count placed)) (SymbolStands sections (count placed))
-        (λ symbol was. (meaning_grows placed.sections sections (count placed) grows symbol.meaning was.0, was.1)) placed.table.symbols.symbols stands.symbols;
+    symbols = record {
+      each = All-weaker (SymbolStands placed.sections (count placed)) (SymbolStands sections (count placed))
+          (λ symbol was. (meaning_grows placed.sections sections (count placed) grows symbol.meaning was.0, was.1)) placed.table.symbols.symbols stands.symbols.each;
+      forward = stands.symbols.forward;
+    };
     procedures = procedures_grow placed.sections sections grows (frames_of placed.procedures) stands.procedures;
+    fields = keeps stands.fields;
   };
   fits = λ fit. fit;
 }
@@ -202,7 +210,15 @@ pub table_stays : (placed : Placed) (table : Table) → Tables placed.sections p
 table_stays placed table kept stands = record {
   grows = not_grown placed.sections;
   more = kept.more;
-  stands = record { current = stands.current; previous = stands.previous; stack = stands.stack; first = stands.first; symbols = kept.kept stands.symbols; procedures = stands.procedures };
+  stands = record {
+    current = stands.current;
+    previous = stands.previous;
+    stack = stands.stack;
+    first = stands.first;
+    symbols = kept.kept stands.symbols;
+    procedures = stands.procedures;
+    fields = fields_more (count placed) (length table.symbols.symbols) kept.more placed.sections stands.fields;
+  };
   fits = kept.fits;
 }
 
@@ -211,7 +227,15 @@ pub table_gains : (placed : Placed) (table : Table) → Names placed.sections pl
 table_gains placed table kept stands = record {
   grows = not_grown placed.sections;
   more = kept.more;
-  stands = record { current = stands.current; previous = stands.previous; stack = stands.stack; first = stands.first; symbols = kept.kept stands.symbols; procedures = stands.procedures };
+  stands = record {
+    current = stands.current;
+    previous = stands.previous;
+    stack = stands.stack;
+    first = stands.first;
+    symbols = kept.kept stands.symbols;
+    procedures = stands.procedures;
+    fields = fields_more (count placed) (length table.symbols.symbols) kept.more placed.sections stands.fields;
+  };
   alike = kept.alike;
 }
 
@@ -220,7 +244,15 @@ pub table_closes : (base : ℕ) (placed : Placed) (table : Table) → Allows pla
 table_closes base placed table kept stands = record {
   grows = not_grown placed.sections;
   more = kept.more;
-  stands = record { current = stands.current; previous = stands.previous; stack = stands.stack; first = stands.first; symbols = kept.kept stands.symbols; procedures = stands.procedures };
+  stands = record {
+    current = stands.current;
+    previous = stands.previous;
+    stack = stands.stack;
+    first = stands.first;
+    symbols = kept.kept stands.symbols;
+    procedures = stands.procedures;
+    fields = fields_more (count placed) (length table.symbols.symbols) kept.more placed.sections stands.fields;
+  };
   few = kept.few;
 }
 
@@ -229,7 +261,7 @@ pub current_stays : (number : ℕ) (placed : Placed) → HasItems placed.section
 current_stays number placed there stands = record {
   grows = not_grown placed.sections;
   more = omega arith;
-  stands = record { current = there; previous = stands.current; stack = stands.stack; first = stands.first; symbols = stands.symbols; procedures = stands.procedures };
+  stands = record { current = there; previous = stands.current; stack = stands.stack; first = stands.first; symbols = stands.symbols; procedures = stands.procedures; fields = stands.fields };
   fits = λ fit. fit;
 }
 
@@ -238,7 +270,7 @@ pub notes_close : (notes : List Noted) (base : ℕ) (before placed : Placed) →
 notes_close notes base before placed closes = record {
   grows = closes.grows;
   more = closes.more;
-  stands = record { current = closes.stands.current; previous = closes.stands.previous; stack = closes.stands.stack; first = closes.stands.first; symbols = closes.stands.symbols; procedures = closes.stands.procedures };
+  stands = record { current = closes.stands.current; previous = closes.stands.previous; stack = closes.stands.stack; first = closes.stands.first; symbols = closes.stands.symbols; procedures = closes.stands.procedures; fields = closes.stands.fields };
   few = closes.few;
 }
 
@@ -247,7 +279,7 @@ pub notes_stay : (notes : List Noted) (placed : Placed) → PlacesStand placed �
 notes_stay notes placed stands = record {
   grows = not_grown placed.sections;
   more = omega arith;
-  stands = record { current = stands.current; previous = stands.previous; stack = stands.stack; first = stands.first; symbols = stands.symbols; procedures = stands.procedures };
+  stands = record { current = stands.current; previous = stands.previous; stack = stands.stack; first = stands.first; symbols = stands.symbols; procedures = stands.procedures; fields = stands.fields };
   fits = λ fit. fit;
 }
 
@@ -256,7 +288,7 @@ pub syntax_stays : (syntax : Syntax) (placed : Placed) → PlacesStand placed �
 syntax_stays syntax placed stands = record {
   grows = not_grown placed.sections;
   more = omega arith;
-  stands = record { current = stands.current; previous = stands.previous; stack = stands.stack; first = stands.first; symbols = stands.symbols; procedures = stands.procedures };
+  stands = record { current = stands.current; previous = stands.previous; stack = stands.stack; first = stands.first; symbols = stands.symbols; procedures = stands.procedures; fields = stands.fields };
   fits = λ fit. fit;
 }
 
@@ -282,11 +314,12 @@ table_close base placed r stands fine = step fine (λ table kept. made (with_tab
 -- WHAT IS PUT
 
 -- something is put into a section
-put_walk : (put : LooseSection → Result LooseSection FragCause) → ((section : LooseSection) → Fine (IsAdded section) (put section)) → (number : ℕ) (placed : Placed) → PlacesStand placed
-    → Walks placed (put_section put number placed)
-put_walk put puts number placed stands =
-    step (there_adds put puts placed.sections number (slice_get placed.sections number) refl)
-    (λ sections adds. made (record placed { sections = sections }) (sections_stay placed sections adds.grows stands))
+put_walk : (put : LooseSection → Result LooseSection FragCause) → ((section : LooseSection) → Fine (IsAdded section) (put section)) → (number : ℕ) (placed : Placed)
+    → ((section : LooseSection) → Fine (KeepsOwn (count placed) number section) (put section)) → PlacesStand placed → Walks placed (put_section put number placed)
+put_walk put puts number placed owns stands =
+    step (both_fine _ (there_adds put puts placed.sections number (slice_get placed.sections number) refl)
+    (there_fields (count placed) put placed.sections number (slice_get placed.sections number) refl owns))
+    (λ sections both. made (record placed { sections = sections }) (sections_stay placed sections both.0.grows both.1 stands))
 
 -- bytes
 pub bytes_walk : (pos : Pos) (number : ℕ) (bytes : List ℕ) (placed : Placed) → PlacesStand placed → Walks placed (put_bytes_into pos number bytes placed)
@@ -294,7 +327,9 @@ unfolding put_bytes_into
 bytes_walk pos number bytes placed stands =
     put_walk (bytes_put pos bytes)
     (λ section. either (takes_zeros_alone section && not (list_all is_zero bytes)) (refused _) (made (with_bytes pos bytes section) (bytes_added pos bytes section)))
-    number placed stands
+    number placed
+    (λ section. either (takes_zeros_alone section && not (list_all is_zero bytes)) (refused _)
+    (made (with_bytes pos bytes section) (bytes_own (count placed) pos number bytes section))) stands
 
 -- a field
 pub field_walk : (pos : Pos) (number : ℕ) (size : FieldSize) (role : FieldRole) (form : Form) (placed : Placed) → PlacesStand placed
@@ -303,7 +338,9 @@ unfolding put_field_into
 field_walk pos number size role form placed stands =
     put_walk (field_put pos number size role form)
     (λ section. either (takes_zeros_alone section) (refused _)
-    (made (with_field pos number size role form section) (field_added pos number size role form section))) number placed stands
+    (made (with_field pos number size role form section) (field_added pos number size role form section))) number placed
+    (λ section. either (takes_zeros_alone section) (refused _)
+    (made (with_field pos number size role form section) (field_own (count placed) pos number size role form section))) stands
 
 -- an item
 pub push_walk : (pos : Pos) (number : ℕ) (item : Content) (placed : Placed) → PlacesStand placed → Walks placed (push_into pos number item placed)
@@ -311,16 +348,19 @@ unfolding push_into
 push_walk pos number item placed stands =
     put_walk (item_put (new_item pos item))
     (λ section. either (takes_zeros_alone section && not (is_known_zeros item)) (refused _)
-    (made (with_item (new_item pos item) section) (item_added (new_item pos item) section))) number placed stands
+    (made (with_item (new_item pos item) section) (item_added (new_item pos item) section))) number placed
+    (λ section. either (takes_zeros_alone section && not (is_known_zeros item)) (refused _) (made (with_item (new_item pos item) section) (λ own. own))) stands
 
 -- an item that grows
-pub growing_walk : (pos : Pos) (number : ℕ) (kind : Growth) (suffix : Option Suffix) (form : Form) (placed : Placed) → PlacesStand placed
-    → Walks placed (put_growing_into pos number kind suffix form placed)
+pub growing_walk : (pos : Pos) (number : ℕ) (kind : Growth) (suffix : Option Suffix) (form : Form) (placed : Placed)
+    → ((growth_role kind suffix).kind ≡ Branch → HoldsTarget (count placed) form) → PlacesStand placed → Walks placed (put_growing_into pos number kind suffix form placed)
 unfolding put_growing_into
-growing_walk pos number kind suffix form placed stands =
+growing_walk pos number kind suffix form placed target stands =
     put_walk (growing_put pos number kind suffix form)
     (λ section. either (takes_zeros_alone section) (refused _)
-    (made (with_growing pos number kind suffix form section) (growing_added pos number kind suffix form section))) number placed stands
+    (made (with_growing pos number kind suffix form section) (growing_added pos number kind suffix form section))) number placed
+    (λ section. either (takes_zeros_alone section) (refused _)
+    (made (with_growing pos number kind suffix form section) (growing_own (count placed) pos number kind suffix form section target))) stands
 
 -- SECTIONS THAT ARE ENTERED
 
@@ -375,9 +415,10 @@ enter_walk pos words placed stands =
     closed placed named _ names
     (after (entry_size_in (known_here named) words.entry_size)
     (λ size. after (header_by placed.sections words size)
-    (λ header. step (both_fine (entered_as placed.sections words.name header) (entered_adds placed.sections words.name header) (entered_is_there placed.sections words.name header))
-    (λ pair has. let more = sections_stay named pair.0 has.0.grows names.stands in
-    let there = current_stays pair.1 (record named { sections = pair.0 }) has.1 more.stands in
+    (λ header. step (both_fine (entered_as placed.sections words.name header) (entered_adds placed.sections words.name header)
+    (both_fine (entered_as placed.sections words.name header) (entered_is_there placed.sections words.name header) (entered_fields (count named) placed.sections words.name header)))
+    (λ pair has. let more = sections_stay named pair.0 has.0.grows has.1.1 names.stands in
+    let there = current_stays pair.1 (record named { sections = pair.0 }) has.1.0 more.stands in
     closes_on (count placed) named (record named { sections = pair.0 }) _ more
     (closes_on (count placed) (record named { sections = pair.0 }) (with_current pair.1 (record named { sections = pair.0 })) _ there
     (table_close (count placed) (with_current pair.1 (record named { sections = pair.0 })) (allowed (naming_of trees placed.table) named.table) there.stands
@@ -404,6 +445,7 @@ pushed_walk pos tokens placed stands =
         first = stays.stands.first;
         symbols = stays.stands.symbols;
         procedures = stays.stands.procedures;
+        fields = stays.stands.fields;
       };
       fits = stays.fits;
     }))
@@ -423,6 +465,7 @@ back_walk (Some entered) placed is stands =
         first = stands.first;
         symbols = stands.symbols;
         procedures = stands.procedures;
+        fields = stands.fields;
       };
       fits = λ fit. fit;
     })

@@ -26,7 +26,7 @@ use Rattle.att_insns.specs.InsnTexts.{InsnText}
 use Rattle.asm_place.specs.declared.codes.InsnForms.{InsnForms}
 use Rattle.asm_place.specs.declared.codes.CodeField.{CodeField}
 use Rattle.amount_forms.specs.Amounts.{in_text_order}
-use Rattle.asm_place.specs.Coding.{InsnShape, shape_in, forms_of, values_in, of_operands, of_code, fields_of, put_rest, put_code, keeps_place, put_coded, put_by_jump, put_insn, insn_of_trees, from_own_place, place_insn, place_read, lone_code, insn_by, place_coded, place_instruction}
+use Rattle.asm_place.specs.Coding.{InsnShape, shape_in, values_in, of_operands, of_code, fields_of, put_rest, put_code, keeps_place, put_coded, put_by_jump, put_insn, insn_of_trees, from_own_place, place_insn, place_read, lone_code, insn_by, place_coded, place_instruction}
 use Rattle.asm_place.specs.CodePlaces.{labelled}
 use Rattle.asm_place.specs.Sources.{pos_at, located, place, place_all}
 use Rattle.asm_place.proofs.Walks.{FramesKeep, Fine, made, refused, step, after, either}
@@ -36,10 +36,13 @@ use Rattle.std.proofs.Common.{zero, suc, ◌<◌, arith}
 use Rattle.std.proofs.lemmas.List.Elements.{All-nil}
 use Rattle.asm_frags.specs.Sections.{first_sections}
 use Rattle.asm_values.specs.State.{nothing_placed}
-use Rattle.asm_place.specs.SymbolPlaces.{HasItems, SymbolStands, ProcedureStands, PlacesStand}
+use Rattle.asm_place.specs.SymbolPlaces.{AreUpTo, HasItems, SymbolStands, ProcedureStands, PlacesStand}
+use Rattle.asm_place.proofs.ForwardForms.{LeadsAreFound, forward_none}
+use Rattle.asm_place.proofs.OwnFields.{fields_begin}
 use Rattle.asm_place.proofs.SymbolLimits.{AreFit, fit_few}
 use Rattle.asm_place.proofs.SymbolTables.{onto, label_stand, change_stand, defined_stand}
 use Rattle.asm_place.proofs.PlaceSteps.{count, Stays, Closes, Walks, closes_on, closed, walked, unmoved, EntryStands, table_stays, names_gain, spot_stands, table_close, bytes_walk, field_walk, growing_walk}
+use Rattle.asm_place.proofs.TargetForms.{forms_up}
 use Rattle.asm_place.proofs.DirectivePlaces.{here_stand, dot_walk, assignment_walk, directive_walk}
 
 -- INSTRUCTIONS
@@ -65,23 +68,25 @@ put_coded_walk pos shape forms placed stands =
     after (of_code (encoding_of shape.view (values_in forms))) (λ coding. put_code_walk pos coding.bytes 0 (fields_of shape forms coding) placed stands)
 
 -- a direct jump is an item that grows
-by_jump_walk : (jump : Option (Option Condition)) (pos : Pos) (shape : InsnShape) (forms : InsnForms) (placed : Placed) → PlacesStand placed
-    → Walks placed (put_by_jump jump pos shape forms placed)
-by_jump_walk None pos shape forms placed stands = put_coded_walk pos shape forms placed stands
-by_jump_walk (Some condition) pos shape forms placed stands =
-    growing_walk pos placed.current (Jump condition) shape.displacement (from_own_place forms.displacement) placed stands
+by_jump_walk : (jump : Option (Option Condition)) (pos : Pos) (shape : InsnShape) (forms : InsnForms) (placed : Placed) → AreUpTo (count placed) forms.displacement.terms
+    → PlacesStand placed → Walks placed (put_by_jump jump pos shape forms placed)
+by_jump_walk None pos shape forms placed named stands = put_coded_walk pos shape forms placed stands
+by_jump_walk (Some condition) pos shape forms placed named stands =
+    growing_walk pos placed.current (Jump condition) shape.displacement (from_own_place forms.displacement) placed
+    (λ branch. record { target = forms.displacement; form_is = refl; named = named }) stands
 
 -- either
-put_insn_walk : (pos : Pos) (shape : InsnShape) (forms : InsnForms) (placed : Placed) → PlacesStand placed → Walks placed (put_insn pos shape forms placed)
+put_insn_walk : (pos : Pos) (shape : InsnShape) (forms : InsnForms) (placed : Placed) → AreUpTo (count placed) forms.displacement.terms → PlacesStand placed
+    → Walks placed (put_insn pos shape forms placed)
 unfolding put_insn
-put_insn_walk pos shape forms placed stands = by_jump_walk shape.jump pos shape forms placed stands
+put_insn_walk pos shape forms placed named stands = by_jump_walk shape.jump pos shape forms placed named stands
 
 -- once its names have symbols
 pub trees_walk : (pos : Pos) (shape : InsnShape) (naming : Naming) (own moved : Tree) (named : Placed) → PlacesStand named
     → Fine (Closes naming.before named) (insn_of_trees pos shape naming own moved named)
 trees_walk pos shape naming own moved named stands =
-    after (forms_of (known_here named) own moved)
-    (λ forms. step (put_insn_walk pos shape forms named stands)
+    step (forms_up named own moved stands)
+    (λ forms up. step (put_insn_walk pos shape forms named up stands)
     (λ put stays. closes_on naming.before named put _ stays
     (table_close naming.before put (end_naming pos naming (here named) (keeps_place (known_here named).place forms) put.table) stays.stands (here_stand pos naming (keeps_place (known_here named).place forms) named put stands stays))))
 
@@ -148,17 +153,18 @@ places_begin no_warn = record {
   previous = first_there no_warn 0 (omega arith);
   stack = All-nil (EntryStands (nothing_placed no_warn).sections);
   first = first_there no_warn;
-  symbols = All-nil (SymbolStands (nothing_placed no_warn).sections 0);
+  symbols = record { each = All-nil (SymbolStands (nothing_placed no_warn).sections 0); forward = forward_none };
   procedures = All-nil (ProcedureStands (nothing_placed no_warn).sections);
+  fields = fields_begin 0;
 }
 
-module _ (frames : FramesKeep) where
+module _ (frames : FramesKeep) (leads : LeadsAreFound) where
   body_walk : (pos : Pos) (first : SpelledToken) (rest : List SpelledToken) (placed : Placed) → PlacesStand placed → Walks placed (place_body pos first rest placed)
   unfolding place_body
   body_walk pos first rest placed stands =
-      either (names_symbol first && is_assignment rest) (assignment_walk pos first (drop 1 rest) placed stands)
+      either (names_symbol first && is_assignment rest) (assignment_walk leads pos first (drop 1 rest) placed stands)
       (either (not (is_name first)) (refused UnknownMnemonic)
-      (either (begins_with_dot first.bytes) (directive_walk frames pos first.bytes rest placed stands) (instruction_walk pos (first ∷ rest) placed stands)))
+      (either (begins_with_dot first.bytes) (directive_walk frames leads pos first.bytes rest placed stands) (instruction_walk pos (first ∷ rest) placed stands)))
 
   -- labels, and what stands behind them
   labelled_walk : (pos : Pos) (tokens : List SpelledToken) (placed : Placed) → PlacesStand placed → Walks placed (place_labelled pos tokens placed)

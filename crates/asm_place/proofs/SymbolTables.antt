@@ -28,7 +28,7 @@ use Rattle.asm_symbols.specs.declared.entries.Spot.{Spot}
 use Rattle.asm_symbols.specs.declared.entries.Symbol.{Symbol}
 use Rattle.asm_base.specs.declared.causes.SymCause.{SymCause}
 use Rattle.asm_base.specs.declared.causes.SymCause.TheVariants.{BadSymbolUse}
-use Rattle.asm_symbols.specs.Assigning.{form_fault_at, with_form}
+use Rattle.asm_symbols.specs.Assigning.{form_fault_at, form_of, with_form, NoFormLeadsBack}
 use Rattle.asm_symbols.specs.Attributes.{with_binding, with_kind, with_visibility, with_size, with_next_size, bound_as, bound_by, bound}
 use Rattle.asm_symbols.specs.Counting.{meant_name, next_named}
 use Rattle.asm_symbols.specs.Defining.{meant, redefined, with_defined, defined_by, defined}
@@ -46,6 +46,7 @@ use Rattle.asm_uses.specs.declared.tables.Naming.{Naming}
 use Rattle.asm_symbols.specs.declared.entries.SymbolAttribute.{SymbolAttribute}
 use Rattle.asm_symbols.specs.declared.entries.SymbolAttribute.TheVariants.{Bind, See}
 use Rattle.asm_place.specs.SymbolPlaces.{AreUpTo, IsGiven, MeaningStands, NameStands, SymbolStands, SymbolsStand}
+use Rattle.asm_place.proofs.ForwardForms.{LeadsAreFound, not_led, forward_kept, forward_push, forward_written, meant_formless}
 use Rattle.asm_place.proofs.GivenNames.{GivenAt, meant_given, given_stands, found_given, form_takes}
 use Rattle.asm_place.proofs.NamedSymbols.{up_to_more}
 use Rattle.asm_place.proofs.SymbolLimits.{AreFit, fit_alike, changed_long, changed_names, put_last, changed_last, fit_symbol, fit_file}
@@ -131,33 +132,39 @@ module _ (sections : List LooseSection) where
 
   -- a change of the symbol that is there, by which it stands as before and keeps its name
   one_stands : (change : Symbol → Symbol) (map : SymbolMap) (index : ℕ) (after : SymbolMap) → after.symbols ≡ changed change map.symbols index
-      → after.files ≡ map.files → ((symbol : Symbol) → (change symbol).name ≡ symbol.name)
+      → after.files ≡ map.files → ((symbol : Symbol) → (change symbol).name ≡ symbol.name) → (NoFormLeadsBack map.symbols → NoFormLeadsBack (changed change map.symbols index))
       → ((symbol : Symbol) → slice_get map.symbols index ≡ Some symbol → Stands (length map.symbols) symbol → Stands (length map.symbols) (change symbol))
       → Maps map after
-  one_stands change map index after is files name stands =
+  one_stands change map index after is files name forward stands =
       let long : length after.symbols ≡ length map.symbols = ap (λ (all : List Symbol). length all) is ∙ changed_long change map.symbols index in
       record {
         more = omega (arith, long);
-        kept = λ all.
-            subst (λ (last : ℕ). All (Stands last) after.symbols) (sym long)
-            (subst (All (Stands (length map.symbols))) (sym is) (changed_all (length map.symbols) change map.symbols index stands all));
+        kept = λ all. record {
+          each = subst (λ (last : ℕ). All (Stands last) after.symbols) (sym long)
+              (subst (All (Stands (length map.symbols))) (sym is) (changed_all (length map.symbols) change map.symbols index stands all.each));
+          forward = subst NoFormLeadsBack (sym is) (forward all.forward);
+        };
         fits = fit_alike map after long (ap names is ∙ changed_names change name map.symbols index) files;
       }
 
   -- a change by which any symbol stands as before
   changed_stand : (change : Symbol → Symbol) (map : SymbolMap) (index : ℕ) (after : SymbolMap) → after.symbols ≡ changed change map.symbols index
-      → after.files ≡ map.files → ((symbol : Symbol) → (change symbol).name ≡ symbol.name)
+      → after.files ≡ map.files → ((symbol : Symbol) → (change symbol).name ≡ symbol.name) → ((symbol : Symbol) → (change symbol).meaning ≡ symbol.meaning)
       → ((symbol : Symbol) → Stands (length map.symbols) symbol → Stands (length map.symbols) (change symbol)) → Maps map after
-  changed_stand change map index after is files name stands = one_stands change map index after is files name (λ symbol there. stands symbol)
+  changed_stand change map index after is files name meaning stands =
+      one_stands change map index after is files name (forward_kept change map.symbols index (λ symbol there. ap form_of (meaning symbol))) (λ symbol there. stands symbol)
 
   -- one symbol more, which stands
-  pushed_stand : (symbols : List Symbol) (one : Symbol) → Stands (length symbols + 1) one → SymbolsStand sections symbols → SymbolsStand sections (symbols ++ one ∷ [])
-  pushed_stand symbols one stands all =
+  pushed_stand : (symbols : List Symbol) (one : Symbol) → Stands (length symbols + 1) one → form_of one.meaning ≡ None → SymbolsStand sections symbols → SymbolsStand sections (symbols ++ one ∷ [])
+  pushed_stand symbols one stands formless all =
       let long : length (symbols ++ one ∷ []) ≡ length symbols + 1 = length-append symbols (one ∷ []) in
-      subst (λ (last : ℕ). All (Stands last) (symbols ++ one ∷ [])) (sym long)
-      (All-push (Stands (length symbols + 1)) symbols one
-      (All-weaker (Stands (length symbols)) (Stands (length symbols + 1))
-      (λ symbol stood. (stands_more (length symbols) (length symbols + 1) (omega arith) symbol.meaning stood.0, stood.1)) symbols all) stands)
+      record {
+        each = subst (λ (last : ℕ). All (Stands last) (symbols ++ one ∷ [])) (sym long)
+            (All-push (Stands (length symbols + 1)) symbols one
+            (All-weaker (Stands (length symbols)) (Stands (length symbols + 1))
+            (λ symbol stood. (stands_more (length symbols) (length symbols + 1) (omega arith) symbol.meaning stood.0, stood.1)) symbols all.each) stands);
+        forward = forward_push symbols one formless all.forward;
+      }
 
   -- a symbol of which nothing is known stands
   more_stand : (map : SymbolMap) (name : Name) → IsGiven name → Names map (with_name map name)
@@ -165,7 +172,7 @@ module _ (sections : List LooseSection) where
       let long : length (map.symbols ++ undefined name ∷ []) ≡ length map.symbols + 1 = length-append map.symbols (undefined name ∷ []) in
       record {
         more = omega (arith, long);
-        kept = pushed_stand map.symbols (undefined name) (tt, given);
+        kept = pushed_stand map.symbols (undefined name) (tt, given) refl;
         alike = λ few fit. absurd (omega (arith, long, few));
       }
 
@@ -279,13 +286,13 @@ module _ (sections : List LooseSection) where
   abbrev pub DefinitionStands : Definition → Type 0
   DefinitionStands what = (last : ℕ) → MeaningStands sections last (meant what)
 
-  -- what a definition makes of a symbol stands, and so does its name if it did
+  -- what a definition makes of a symbol stands, and so does its name if it did; and it has no form more
   abbrev RedefinedStands : Name → Option Binding → Meaning → Meaning → Type 0
-  RedefinedStands name binding now new = NameStands name binding now → (last : ℕ) → MeaningStands sections last new × NameStands name binding new
+  RedefinedStands name binding now new = (NameStands name binding now → (last : ℕ) → MeaningStands sections last new × NameStands name binding new) × (form_of new ≡ form_of now)
 
   -- a symbol that is defined anew
   redefined_stand : (name : Name) (binding : Option Binding) (now : Meaning) (what : Definition) → DefinitionStands what → Fine (RedefinedStands name binding now) (redefined now what)
-  redefined_stand name binding meaning.Undefined what stands = made (meant what) (λ given last. (stands last, given_stands name binding (meant what) given))
+  redefined_stand name binding meaning.Undefined what stands = made (meant what) ((λ given last. (stands last, given_stands name binding (meant what) given)), meant_formless what)
   redefined_stand name binding (meaning.Label spot) what stands = refused _
   redefined_stand name binding (meaning.Space spot) what stands = refused _
   redefined_stand name binding (meaning.Common size align) what stands = refused _
@@ -303,24 +310,25 @@ module _ (sections : List LooseSection) where
       by (Some symbol) is =
           step (redefined_stand symbol.name symbol.binding symbol.meaning what stands)
           (λ now new. made _ (one_stands (with_meaning now) map index (with_defined map index symbol.name what now) refl refl (λ one. refl)
+          (forward_kept (with_meaning now) map.symbols index (λ one there. new.1 ∙ ap (λ (s : Symbol). form_of s.meaning) (same_Some symbol one (sym is ∙ there))))
           (λ one there stood. subst (λ (s : Symbol). NameStands s.name s.binding s.meaning → MeaningStands sections (length map.symbols) now × NameStands s.name s.binding now)
-          (same_Some symbol one (sym is ∙ there)) (λ named. new named (length map.symbols)) stood.1)))
+          (same_Some symbol one (sym is ∙ there)) (λ named. new.0 named (length map.symbols)) stood.1)))
 
   -- an assignment
-  pub assigned_stand : (form : Form) (once : Bool) (map : SymbolMap) (index : ℕ) → AreUpTo (length map.symbols) form.terms
+  pub assigned_stand : LeadsAreFound → (form : Form) (once : Bool) (map : SymbolMap) (index : ℕ) → AreUpTo (length map.symbols) form.terms
       → Fine (Maps map) (assigned map index form once)
   unfolding assigned
-  assigned_stand form once map index named = by (form_fault_at map index once) (leads_back map.symbols form index) refl
+  assigned_stand leads form once map index named = by (form_fault_at map index once) (leads_back map.symbols form index) refl refl
     where
-      by : (fault : Option SymCause) (back : Bool) → form_fault_at map index once ≡ fault → Fine (Maps map) (assigned_by fault back (with_form map index form))
-      by (Some fault) back is = refused _
-      by None true is = refused _
-      by None false is = made _ (one_stands (with_meaning (meaning.Assigned form)) map index (with_form map index form) refl refl (λ one. refl)
-          (λ one there stood. (named, form_takes map index once one there is stood.1)))
+      by : (fault : Option SymCause) (back : Bool) → form_fault_at map index once ≡ fault → leads_back map.symbols form index ≡ back → Fine (Maps map) (assigned_by fault back (with_form map index form))
+      by (Some fault) back is led = refused _
+      by None true is led = refused _
+      by None false is led = made _ (one_stands (with_meaning (meaning.Assigned form)) map index (with_form map index form) refl refl (λ one. refl)
+          (forward_written map.symbols index form (not_led leads map.symbols form index led)) (λ one there stood. (named, form_takes map index once one there is stood.1)))
 
   -- a kind that is said
   pub kind_stand : (kind : Kind) (map : SymbolMap) (index : ℕ) → Fine (Maps map) (kind_said kind map index)
-  kind_stand kind map index = made _ (changed_stand (with_kind kind) map index _ refl refl (λ one. refl) (λ one stood. stood))
+  kind_stand kind map index = made _ (changed_stand (with_kind kind) map index _ refl refl (λ one. refl) (λ one. refl) (λ one stood. stood))
 
   -- a binding that is said
   bound_stand : (binding : Binding) (map : SymbolMap) (index : ℕ) → GivenAt map index → Fine (Maps map) (bound map index binding)
@@ -331,14 +339,14 @@ module _ (sections : List LooseSection) where
       by None = refused _
       by (Some symbol) =
           after (bound_as symbol.meaning symbol.binding binding)
-          (λ now. made _ (one_stands (with_binding now) map index _ refl refl (λ one. refl)
+          (λ now. made _ (one_stands (with_binding now) map index _ refl refl (λ one. refl) (forward_kept (with_binding now) map.symbols index (λ one there. refl))
           (λ one there stood. (stood.0, given_stands one.name (Some now) one.meaning (given one there)))))
 
   -- an attribute of a symbol
   said_stand : (attribute : SymbolAttribute) (map : SymbolMap) (index : ℕ) → GivenAt map index → Fine (Maps map) (said attribute map index)
   said_stand (Bind binding) map index given = bound_stand binding map index given
   said_stand (See visibility) map index given =
-      made _ (changed_stand (with_visibility visibility) map index _ refl refl (λ one. refl) (λ one stood. stood))
+      made _ (changed_stand (with_visibility visibility) map index _ refl refl (λ one. refl) (λ one. refl) (λ one stood. stood))
 
   -- the same of several symbols
   pub say_all_stand : (pos : Pos) (attribute : SymbolAttribute) (names : List Name) → All IsGiven names → (table : Table)
@@ -351,7 +359,7 @@ module _ (sections : List LooseSection) where
 
   -- a size that is said
   next_size_stand : (size : Form) (map : SymbolMap) (index : ℕ) → Maps map (with_next_size size map index)
-  next_size_stand size map index = changed_stand (with_size size (map.sizes + 1)) map index (with_next_size size map index) refl refl (λ one. refl) (λ one stood. stood)
+  next_size_stand size map index = changed_stand (with_size size (map.sizes + 1)) map index (with_next_size size map index) refl refl (λ one. refl) (λ one. refl) (λ one stood. stood)
 
   -- the same of a symbol that is found
   pub sized_stand : (pos : Pos) (form : Form) (found : Table × ℕ) → Tables found.0 (sized pos form found)
@@ -408,7 +416,7 @@ module _ (sections : List LooseSection) where
       space_stand : (map : SymbolMap) → Maps map (as_space size map symbol)
       space_stand map =
           both map (with_next_size (constant_form size) map symbol) (as_space size map symbol) (next_size_stand (constant_form size) map symbol)
-          (changed_stand (with_kind (space_kind map symbol)) (with_next_size (constant_form size) map symbol) symbol (as_space size map symbol) refl refl (λ one. refl) (λ one stood. stood))
+          (changed_stand (with_kind (space_kind map symbol)) (with_next_size (constant_form size) map symbol) symbol (as_space size map symbol) refl refl (λ one. refl) (λ one. refl) (λ one stood. stood))
 
   -- the map has this name last, and the index is its symbol's
   record IsPushed (map : SymbolMap) (name : Name) (after : SymbolMap) (index : ℕ) : Type 0 where
@@ -438,7 +446,7 @@ module _ (sections : List LooseSection) where
       ap (λ (all : List Symbol). length all) is ∙ length-append map.symbols (label ∷ []) in
       record {
         more = omega (arith, long);
-        kept = λ all. subst (SymbolsStand sections) (sym is) (pushed_stand map.symbols label (stands (length map.symbols + 1), inr (refl, refl)) all);
+        kept = λ all. subst (SymbolsStand sections) (sym is) (pushed_stand map.symbols label (stands (length map.symbols + 1), inr (refl, refl)) refl all);
         fits = λ before.
             fit_alike (with_name map (here_name spot)) (with_defined (with_name map (here_name spot)) (length map.symbols) (here_name spot) (definition.Label spot) (meaning.Label spot))
             (changed_long (with_meaning (meaning.Label spot)) (map.symbols ++ last ∷ []) (length map.symbols))

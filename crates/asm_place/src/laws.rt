@@ -33,6 +33,7 @@ ghost use Rattle.asm_place.specs.Instructions.{behind_labels, instruction_writte
 ghost use Rattle.section_laws.specs.Within.{AreWithin};
 
 use asm_frames::frame_directives_keep_all_else;
+use asm_symbols::leads_is_decided;
 use cfi_directives::{places_never_fall, procedures_are_sound};
 use jump_laws::{conditions_are_numbered, jump_codes_read};
 use section_laws::puts_stay_within;
@@ -215,10 +216,11 @@ pub fn jumps_read()
 }
 
 /// Each symbol that has a place, and each place of a procedure, stands in a section that is there, and the forms of
-/// assigned symbols name symbols that are there, or the next one. A symbol is named by a text or a numeric label, but for
-/// the label of a place that a form keeps as `.`, which has the name of that place. So it is at the beginning, and placing
-/// keeps it so. There are at most 2^24 symbols. The target of a direct jump names symbols that are there in the end, or the
-/// next one.
+/// assigned symbols name symbols that are there, or the next one, and none leads back to its symbol. A symbol is named by a
+/// text or a numeric label, but for the label of a place that a form keeps as `.`, which has the name of that place. Each
+/// field is one of its section, and that of a direct jump holds its target, less the place of the field. So it is at the
+/// beginning, and placing keeps it so. There are at most 2^24 symbols. The target of a direct jump names symbols that are
+/// there in the end, or the next one.
 pub fn places_stand()
     ensures begins { (no_warn : Bool) → PlacesStand (nothing_placed no_warn) }
     ensures kept { (statements : List TokenStatement) (before placed : Placed)
@@ -233,6 +235,7 @@ pub fn places_stand()
         → AreUpTo (length whole.table.symbols.symbols) jump.forms.displacement.terms }
 {
     frame_directives_keep_all_else();
+    leads_is_decided();
 }
 
 /// What all statements place has at most 30,003 sections, whose names have at most 2^16 bytes, and at most
@@ -242,6 +245,7 @@ pub fn sources_are_small()
         → place_all statements (nothing_placed no_warn) ≡ Ok placed → IsSmall placed }
 {
     frame_directives_keep_all_else();
+    leads_is_decided();
 }
 
 /// Of the procedures of frame tables that all statements place, those that have ended are whole, and the
