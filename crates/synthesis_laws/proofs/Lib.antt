@@ -21,5 +21,6 @@ pub mod WrittenRows
 pub mod WrittenRules
 pub mod WrittenTables
 pub mod GivenRows
+pub mod TablesOfItems
 pub mod WholeFrames
 pub mod MeaningRows

@@ -1,5 +1,5 @@
 -- Frame tables in the form of procedures, whose instructions can be written and run.
-use Rattle.std.specs.Prelude.{◌≡◌, ℕ, List, map}
+use Rattle.std.specs.Prelude.{◌≡◌, ◌<◌, ℕ, List, All, length, map}
 use Rattle.cfi_directives.specs.declared.frames.Frame.{Frame}
 use Rattle.cfi_directives.specs.Sound.{IsSound}
 use Rattle.code_functions.specs.declared.items.CodeItem.{CodeItem}
@@ -16,3 +16,8 @@ HasTable ops frame = map (λ placed. placed.op) frame.ops ≡ map (λ held. held
 abbrev pub TablesCanBeWritten : Type 0
 TablesCanBeWritten = (items : List CodeItem) (nodes : List Node) (old new : ℕ) (ops : List ItemOp)
     (frame : Frame) → IsTableOf items nodes old new ops → HasTable ops frame → IsSound frame
+
+-- each instruction of a frame table is told at an item of the function
+abbrev pub TablesAreOfItems : Type 0
+TablesAreOfItems = (items : List CodeItem) (nodes : List Node) (old new : ℕ) (ops : List ItemOp)
+    → IsTableOf items nodes old new ops → All (λ op. op.item < length items) ops

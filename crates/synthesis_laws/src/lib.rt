@@ -9,4 +9,4 @@ mod tables;
 pub use answers::{analyses_are_one, answers_are_one, functions_have_answers};
 pub use frames::{table_frames_are_whole, table_frames_mean_rows};
 pub use seen::synthesis_sees;
-pub use tables::{tables_can_be_written, tables_give_rows};
+pub use tables::{tables_are_of_items, tables_can_be_written, tables_give_rows};

@@ -1,7 +1,7 @@
 //! Frame tables can be written and run, and give the rows of items.
 
 ghost use Rattle.synthesis_laws.specs.RowsInForce.{TablesGiveRows};
-ghost use Rattle.synthesis_laws.specs.WrittenTables.{TablesCanBeWritten};
+ghost use Rattle.synthesis_laws.specs.WrittenTables.{TablesAreOfItems, TablesCanBeWritten};
 
 use cfi_rows::{differences_lead, rows_stand_at_places};
 use scfi_pass::rows_begin;
@@ -24,3 +24,8 @@ pub fn tables_give_rows()
     rows_begin();
     rows_stand_at_places();
 }
+
+/// Each instruction of a frame table is told at an item of the function.
+pub fn tables_are_of_items()
+    ensures { TablesAreOfItems }
+{}
