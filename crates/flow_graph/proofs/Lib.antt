@@ -1,6 +1,7 @@
 -- Lemmas, a file for each subject.
 mod LandingLemmas
 mod TargetLemmas
+mod AddedLabels
 mod FieldLemmas
 mod NodeLemmas
 mod RuleLemmas

@@ -8,7 +8,10 @@ ghost use Rattle.asm_symbols.specs.SymbolMap.{SymbolMap};
 ghost use Rattle.code_functions.specs.declared.items.CodeItem.{CodeItem};
 ghost use Rattle.flow_graph.specs.declared.targets.Target.{Target};
 ghost use Rattle.flow_graph.specs.Rules.{LastIsFound, LoneIsLeft, TargetIsLabel, ControlGoes, TellsOf, AreItems};
+ghost use Rattle.flow_graph.specs.AddedLabels.{TargetsStay, NodesStay, GraphsStay};
 ghost use Rattle.flow_graph.specs.Worked.{WorkedGraphs};
+
+use assigned_forms::expansions_are_exact;
 
 /// The item that is found at a place is the last one that begins there.
 pub fn last_item_is_found()
@@ -46,6 +49,16 @@ pub fn successors_are_items()
     ensures { (symbols : SymbolMap) (section : ℕ) (fields : List Field) (items : List CodeItem)
         → AreItems symbols section fields items }
 {}
+
+/// Labels that come behind all symbols change no target and no node, where forms name symbols that
+/// were there, and lead back to none of their own symbols.
+pub fn added_labels_change_no_target()
+    ensures targets { TargetsStay }
+    ensures nodes { NodesStay }
+    ensures graphs { GraphsStay }
+{
+    expansions_are_exact();
+}
 
 /// The graphs of some functions, worked out by hand.
 #[tactic(auto, using(crate::proofs::Worked::worked))]
