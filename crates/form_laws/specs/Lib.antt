@@ -1,0 +1,3 @@
+-- The definitions that contracts cite, in reading order.
+pub mod Forms
+pub mod Numbers

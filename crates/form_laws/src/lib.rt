@@ -1,0 +1,10 @@
+//! What the forms of assigned symbols and of instructions name, and how large their numbers are.
+#![tactic(auto)]
+
+mod forms;
+mod numbers;
+
+pub use forms::{
+    forms_lead_forward, forms_name_symbols, held_forms_name_symbols, values_name_symbols,
+};
+pub use numbers::{numbers_fit, values_fit};
