@@ -18,7 +18,7 @@ use Rattle.asm_frags.specs.Writing.{LooseSection, ends_in_run, new_item, item_be
 use Rattle.item_bytes.specs.declared.jumps.Condition.{Condition}
 use Rattle.item_contents.specs.declared.contents.Content.TheVariants.{Run}
 use Rattle.item_contents.specs.declared.kinds.Growth.TheVariants.{Jump}
-use Rattle.section_laws.specs.Within.{IsWithin, AreWithin}
+use Rattle.section_laws.specs.Within.{AreWithin}
 use Rattle.asm_relax.specs.Settling.{LaidSections}
 use Rattle.x86_insn.specs.declared.amounts.FieldKind.{FieldKind}
 use Rattle.x86_insn.specs.declared.amounts.FieldKind.TheVariants.{Branch}
@@ -36,7 +36,7 @@ use Rattle.asm_values.specs.State.{Placed}
 use Rattle.att_insns.specs.InsnTexts.{InsnText}
 use Rattle.asm_place.specs.Coding.{shape_in, view_in, values_in, field_size, from_own_place, displacement_field, immediate_field, before_fields}
 use Rattle.asm_place.specs.CodePlaces.{FieldInCode, ValueForms, insn_written, insn_in, jump_in, IsCoded, IsInsnPut, code_fields, field_in, with_code}
-use Rattle.asm_place.specs.Instructions.{behind_labels, run_end, next_item, next_offset, with_more, Grows}
+use Rattle.asm_place.specs.Instructions.{behind_labels, run_end, next_item, next_offset, Grows}
 use Rattle.asm_place.specs.JumpPlaces.{IsJump, IsJumpPut, jump_form, jump_field}
 use Rattle.asm_place.specs.Placing.{place_tokens}
 use Rattle.asm_place.specs.Sources.{pos_at, place, place_all}
@@ -49,19 +49,17 @@ use Rattle.asm_functions.specs.Following.{fields_in}
 use Rattle.scfi_laws.specs.Laid.{Kind, size}
 use Rattle.item_readings.specs.Items.{IsItemOf}
 use Rattle.place_laws.specs.Ends.{place_in}
-use Rattle.place_laws.specs.Jumps.{IsLowLater}
-use Rattle.place_laws.specs.Low.{LayoutsAreLow}
 use Rattle.place_laws.specs.Statements.{StatementsStand}
 use Rattle.code_laws.specs.Sections.{IsLoadedLater, IsLaidBetween}
 use Rattle.code_laws.specs.Codes.{IsNumbered, AreNumbered, EncodingsAreReadLoaded, IsPutAndRead}
 use Rattle.code_laws.specs.Instructions.{EncodingsAreSeen}
 use Rattle.code_laws.specs.Jumps.{IsJumpWritten}
 use Rattle.target_laws.specs.Targets.{NamesNoField}
-use Rattle.target_laws.specs.Jumps.{IsLoadedSection, jump_length, IsJumpLoaded, JumpsAreSeen, IsJumpItem, AreStarts, jump_kind, JumpsAreRead}
+use Rattle.target_laws.specs.Jumps.{jump_length, IsJumpLoaded, JumpsAreSeen, IsJumpItem, AreStarts, jump_kind, JumpsAreRead}
 use Rattle.target_laws.specs.Branches.{HoldsTargetAlone, TargetsAreAlone, IsBranchLoaded, branch_field, IsBranchItem, BranchesAreRead}
 use Rattle.target_laws.specs.Rooms.{JumpsHaveRoom, HoldsTarget, BranchesAreSaid}
 use Rattle.function_laws.specs.Tabled.{fields_of, IsResolved}
-use Rattle.function_laws.proofs.Elements.{All-there, get_set, get_first, get_last}
+use Rattle.function_laws.proofs.Elements.{get_set, get_first, get_last}
 use Rattle.function_laws.proofs.Growing.{grown_twice}
 
 -- what is known of statements, of layouts, and of what is read
@@ -81,7 +79,6 @@ pub record Facts : Type 0 where
   pub seen : JumpsAreSeen
   pub read_jump : JumpsAreRead
   pub read_branch : BranchesAreRead
-  pub low : LayoutsAreLow
   pub room : JumpsHaveRoom
   pub said : BranchesAreSaid
 
@@ -182,30 +179,9 @@ module _ (facts : Facts) (symbols : SymbolMap) (laid : LaidSections) (s : TokenS
     loaded = l.loaded;
   }
 
-  abbrev low : IsLowLater symbols placed.sections laid
-  low = record { later = l.later; grows = loaded.grows; is = l.is; low = facts.low.items symbols l.later laid l.is l.within }
-
-  -- the section with what was put, and a field that was
+  -- what is said of a field that was put into the section, and that it is known
   module _ (new : LooseSection) (new_there : slice_get placed.sections n ≡ Some new) (index : ℕ) (field : Field)
       (field_there : slice_get new.fields index ≡ Some field) where
-    abbrev section : IsLoadedSection symbols l.later laid n code
-    section =
-        let more = loaded.grows.kept n new new_there in
-        let last = with_more new more.bytes more.fields more.items in
-        record {
-          section = last;
-          there = more.there;
-          within = All-there IsWithin l.later n last more.there l.within;
-          kept = l.kept;
-          kept_there = l.there;
-          takes_bytes = l.takes_bytes;
-          hold = l.relocated;
-          loaded = l.loaded;
-        }
-
-    field_loaded : slice_get section.section.fields index ≡ Some field
-    field_loaded = get_first new.fields (loaded.grows.kept n new new_there).fields index field field_there
-
     field_known : slice_get fields index ≡ Some field
     field_known =
         let more = grows.kept n new new_there in
@@ -213,7 +189,8 @@ module _ (facts : Facts) (symbols : SymbolMap) (laid : LaidSections) (s : TokenS
         ∙ get_first new.fields more.fields index field field_there
 
     said : HoldsTarget field → (field.role.suffix ≡ None) ⊎ (field.role.suffix ≡ Some Plt)
-    said holds = facts.said symbols l.later laid n index code resolved.object field l.is resolved.is resolved.stand.expandable section field_loaded holds
+    said holds =
+        facts.said symbols laid n index placed.sections new code resolved.object field loaded resolved.is resolved.stand.expandable new_there field_there holds
 
   -- the field that is recorded
   recorded : (first new : LooseSection) → slice_get before.sections n ≡ Some first → slice_get placed.sections n ≡ Some new → length first.fields < length new.fields
@@ -272,9 +249,8 @@ module _ (facts : Facts) (symbols : SymbolMap) (laid : LaidSections) (s : TokenS
     abbrev jump_loaded : IsJumpLoaded symbols laid pos tokens text condition before placed code
     jump_loaded = record {
       put = put;
-      later = low;
-      section = section jump_new jump_there jump_number jump_put jump_field_there;
-      room = facts.room symbols laid pos tokens text condition before placed put low l.within resolved.stand (plain put.jump);
+      later = loaded;
+      room = facts.room symbols laid pos tokens text condition before placed code put loaded resolved.stand (plain put.jump);
     }
 
     jump_item : IsJumpItem symbols n fields items condition jump_number item node
@@ -395,8 +371,7 @@ module _ (facts : Facts) (symbols : SymbolMap) (laid : LaidSections) (s : TokenS
     abbrev branch_loaded : IsBranchLoaded symbols laid pos tokens text before placed code
     branch_loaded = record {
       put = got.put;
-      later = low;
-      section = section new new_there own field_put own_there;
+      later = loaded;
       loaded = got.reads.loaded;
     }
 

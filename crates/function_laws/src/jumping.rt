@@ -9,7 +9,7 @@ use code_laws::{
     encodings_are_read_loaded, encodings_are_seen, ends_are_places, items_are_placed,
     jumps_are_written,
 };
-use place_laws::{layouts_are_low, statements_stand};
+use place_laws::statements_stand;
 use target_laws::{
     branches_are_read, branches_are_said, branches_have_targets, jumps_are_read, jumps_are_seen,
     jumps_have_room,
@@ -35,7 +35,6 @@ pub fn function_jumps_are_laid()
     jumps_are_seen();
     jumps_are_read();
     branches_are_read();
-    layouts_are_low();
     jumps_have_room();
     branches_are_said();
 }

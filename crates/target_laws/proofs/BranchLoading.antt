@@ -14,7 +14,7 @@ use Rattle.asm_frags.specs.Substituting.{substituted_field}
 use Rattle.asm_frags.specs.Writing.{LooseSection, ends_in_run, new_item, item_behind, with_run}
 use Rattle.assigned_forms.specs.Linked.{linked}
 use Rattle.item_contents.specs.declared.contents.Content.TheVariants.{Run}
-use Rattle.section_laws.specs.Within.{AreBetween, CountsItems}
+use Rattle.section_laws.specs.Within.{AreBetween, CountsItems, IsWithin}
 use Rattle.asm_relax.specs.FieldValues.{held_value}
 use Rattle.asm_relax.specs.Final.{address_in, address_of}
 use Rattle.asm_relax.specs.KeptSections.{kept_section, LayoutsKeepSections}
@@ -108,8 +108,8 @@ module _ (facts : Facts) (symbols : SymbolMap) (laid : LaidSections) (pos : Pos)
   abbrev whole : LooseSection
   whole = with_more new more.bytes more.fields more.items
 
-  section_is : is.section.section ≡ whole
-  section_is = same_Some is.section.section whole (sym is.section.there ∙ more.there)
+  whole_within : IsWithin whole
+  whole_within = All-there IsWithin is.later.later n whole more.there is.later.within
 
   -- the field that is put
   abbrev pub field_put : Field
@@ -126,13 +126,13 @@ module _ (facts : Facts) (symbols : SymbolMap) (laid : LaidSections) (pos : Pos)
   -- IN THE LAYOUT
 
   abbrev pub kept : SectionOf LaidItem
-  kept = is.section.kept
+  kept = is.later.kept
 
   got_kept : (own : List ℕ) × (slice_get laid n ≡ Some (kept_section symbols own whole))
   got_kept = facts.layouts.section symbols is.later.later laid n whole is.later.is more.there
 
   kept_is : kept ≡ kept_section symbols got_kept.0 whole
-  kept_is = same_Some kept (kept_section symbols got_kept.0 whole) (sym is.section.kept_there ∙ got_kept.1)
+  kept_is = same_Some kept (kept_section symbols got_kept.0 whole) (sym is.later.there ∙ got_kept.1)
 
   abbrev pub own : Field
   own = substituted_field (linked symbols) field_put
@@ -143,16 +143,16 @@ module _ (facts : Facts) (symbols : SymbolMap) (laid : LaidSections) (pos : Pos)
       ∙ ap (option_map (substituted_field (linked symbols))) field_there
 
   items_are : items_in laid n ≡ kept.items
-  items_are = ap (λ found. option_map_or (λ (s : SectionOf LaidItem). s.items) found []) is.section.kept_there
+  items_are = ap (λ found. option_map_or (λ (s : SectionOf LaidItem). s.items) found []) is.later.there
 
   laid_placed : placed_section kept ≡ kept
-  laid_placed = facts.layouts.placed symbols is.later.later laid n kept is.later.is is.section.kept_there
+  laid_placed = facts.layouts.placed symbols is.later.later laid n kept is.later.is is.later.there
 
   counted : All (CountsItems kept.fields kept.items) kept.fields
-  counted = facts.counts.counted symbols is.later.later laid n is.section.section kept is.later.is is.section.there is.section.kept_there is.section.within
+  counted = facts.counts.counted symbols is.later.later laid n whole kept is.later.is more.there is.later.there whole_within
 
   low : All (λ field. moved kept.items field.item field.offset < 2 ^ 64) kept.fields
-  low = facts.counts.low symbols is.later.later laid n is.section.section kept is.later.is is.section.there is.section.kept_there is.section.within
+  low = facts.counts.low symbols is.later.later laid n whole kept is.later.is more.there is.later.there whole_within
 
   own_counts : CountsItems kept.fields kept.items own
   own_counts = All-there (CountsItems kept.fields kept.items) kept.fields number own field_kept counted
@@ -181,7 +181,7 @@ module _ (facts : Facts) (symbols : SymbolMap) (laid : LaidSections) (pos : Pos)
   pub address_is : address_of laid n own.item own.offset ≡ at
   unfolding address_of
   address_is =
-      ap (λ found. option_map_or (λ (s : SectionOf LaidItem). address_in s.items own.item own.offset) found 0) is.section.kept_there
+      ap (λ found. option_map_or (λ (s : SectionOf LaidItem). address_in s.items own.item own.offset) found 0) is.later.there
       ∙ facts.addresses kept own.item own.offset laid_placed own_counts.between.enough own_counts.between.before own_low
 
   -- IN THE OBJECT
@@ -189,14 +189,14 @@ module _ (facts : Facts) (symbols : SymbolMap) (laid : LaidSections) (pos : Pos)
   stand : FieldsStand kept.bytes 0 kept.fields
   stand =
       subst (λ (s : SectionOf LaidItem). FieldsStand s.bytes 0 s.fields) (sym kept_is)
-      (facts.layouts.stand symbols whole.bytes 0 whole.fields (subst (λ (s : LooseSection). FieldsStand s.bytes 0 s.fields) section_is is.section.within.apart))
+      (facts.layouts.stand symbols whole.bytes 0 whole.fields whole_within.apart)
 
   filed : IsFiled laid n kept
   filed = record {
-    found = is.section.kept_there;
-    takes_bytes = is.section.takes_bytes;
+    found = is.later.there;
+    takes_bytes = is.later.takes_bytes;
     laid = laid_placed;
-    sized = facts.layouts.sized symbols is.later.later laid n kept is.later.is is.section.kept_there;
+    sized = facts.layouts.sized symbols is.later.later laid n kept is.later.is is.later.there;
   }
 
   module _ (value : ℕ) (held_is : held_value symbols laid own ≡ Some value) where
@@ -250,19 +250,19 @@ module _ (facts : Facts) (symbols : SymbolMap) (laid : LaidSections) (pos : Pos)
 
       all_alone : All (IsLeftAlone symbols laid n kept (moved kept.items own.item (own.offset + k))) kept.fields
       all_alone = λ i d inside.
-          alone_by (get_or kept.fields i d) i (slice_get-get_or kept.fields i d inside) (counted i d inside) (low i d inside) (is.section.hold i d inside)
+          alone_by (get_or kept.fields i d) i (slice_get-get_or kept.fields i d inside) (counted i d inside) (low i d inside) (is.later.relocated i d inside)
           (either_way i number) (either_way number i)
 
       pub loaded_byte : at + k < length code → slice_get code (at + k) ≡ slice_get value_bytes k
       loaded_byte within =
           let front = piece.long in
           let long = low_length held.size value in
-          let size = is.section.loaded.long in
+          let size = is.later.loaded.long in
           let next : moved kept.items own.item (own.offset + k) ≡ at + k = omega arith in
           let beside = subst (λ p. All (IsBesideRelocation p) (section_relocations symbols laid n kept)) next
           (facts.relocations symbols laid n (moved kept.items own.item (own.offset + k)) kept all_alone) in
           let place : section_offset symbols laid n + (at + k) ≡ length piece.front + k = omega (arith, front) in
-          is.section.loaded.same (at + k) (omega (arith, size, within)) beside
+          is.later.loaded.same (at + k) (omega (arith, size, within)) beside
           ∙ ap (λ (xs : List ℕ). slice_get xs (section_offset symbols laid n + (at + k))) piece.whole
           ∙ ap (slice_get (piece.front ++ (value_bytes ++ piece.rest))) place ∙ get_after piece.front (value_bytes ++ piece.rest) k
           ∙ get_within value_bytes piece.rest k (omega (arith, few, long))

@@ -255,8 +255,8 @@ module _ (laws : Laws) (symbols : SymbolMap) (laid : LaidSections) (pos : Pos) (
     value_holds =
         let range : holds kind.Branch held.size value ≡ true =
         subst (λ v. IfSome v (λ n. holds kind.Branch held.size n ≡ true)) leads.held
-        (laws.ranges symbols laid before.current (number laws.facts symbols laid pos tokens text before placed code is held lone) is.section.kept laid_field
-        (layout_fine symbols is.later.later laid is.later.is) is.section.kept_there (field_kept laws.facts symbols laid pos tokens text before placed code is held lone)) in
+        (laws.ranges symbols laid before.current (number laws.facts symbols laid pos tokens text before placed code is held lone) is.later.kept laid_field
+        (layout_fine symbols is.later.later laid is.later.is) is.later.there (field_kept laws.facts symbols laid pos tokens text before placed code is held lone)) in
         ap (λ o. field_holds o value) some ∙ ap (λ k. kind_holds k field.size value) branch_is
         ∙ ap (λ n. kind_holds kind.Branch n value) (sym last.1) ∙ branch_holds held.size value value_low range
 

@@ -22,7 +22,7 @@ use Rattle.item_bytes.specs.Levels.{IsSignedWithin}
 use Rattle.item_contents.specs.declared.contents.Content.TheVariants.{Growing}
 use Rattle.item_contents.specs.declared.kinds.Growth.TheVariants.{Jump}
 use Rattle.item_contents.specs.Contents.{level_size}
-use Rattle.section_laws.specs.Within.{CountsItems}
+use Rattle.section_laws.specs.Within.{CountsItems, IsWithin}
 use Rattle.asm_relax.specs.FieldValues.{held_value}
 use Rattle.asm_relax.specs.ItemValues.{HasRoom}
 use Rattle.asm_relax.specs.KeptSections.{kept_section, kept_items, LayoutsKeepSections}
@@ -93,8 +93,8 @@ module _ (given : Given) (symbols : SymbolMap) (laid : LaidSections) (pos : Pos)
   abbrev whole : LooseSection
   whole = with_more new more.bytes more.fields more.items
 
-  section_is : is.section.section ≡ whole
-  section_is = same_Some is.section.section whole (sym is.section.there ∙ more.there)
+  whole_within : IsWithin whole
+  whole_within = All-there IsWithin is.later.later n whole more.there is.later.within
 
   abbrev item_put : LooseItem
   item_put = item_behind offset (new_item pos (Growing (record { kind = Jump condition; field = number })))
@@ -132,13 +132,13 @@ module _ (given : Given) (symbols : SymbolMap) (laid : LaidSections) (pos : Pos)
   -- IN THE LAYOUT
 
   abbrev kept : SectionOf LaidItem
-  kept = is.section.kept
+  kept = is.later.kept
 
   got_kept : (own : List ℕ) × (slice_get laid n ≡ Some (kept_section symbols own whole))
   got_kept = given.layouts.section symbols is.later.later laid n whole is.later.is more.there
 
   kept_is : kept ≡ kept_section symbols got_kept.0 whole
-  kept_is = same_Some kept (kept_section symbols got_kept.0 whole) (sym is.section.kept_there ∙ got_kept.1)
+  kept_is = same_Some kept (kept_section symbols got_kept.0 whole) (sym is.later.there ∙ got_kept.1)
 
   got_item : (address : ℕ) × (size : ℕ) × (slice_get (kept_items got_kept.0 whole.items) index ≡ Some (item_laid_at address size (laid_item item_put)))
   got_item = given.layouts.item whole.items got_kept.0 index item_put item_there
@@ -164,7 +164,7 @@ module _ (given : Given) (symbols : SymbolMap) (laid : LaidSections) (pos : Pos)
   own_is = ap (substituted_field (linked symbols)) field_is
 
   items_are : items_in laid n ≡ kept.items
-  items_are = ap (λ found. option_map_or (λ (s : SectionOf LaidItem). s.items) found []) is.section.kept_there
+  items_are = ap (λ found. option_map_or (λ (s : SectionOf LaidItem). s.items) found []) is.later.there
 
   size_is : jump_length laid before ≡ size
   size_is =
@@ -180,13 +180,13 @@ module _ (given : Given) (symbols : SymbolMap) (laid : LaidSections) (pos : Pos)
       ∙ ap (λ (items : List LaidItem). end_in items first) items_are
 
   laid_placed : placed_section kept ≡ kept
-  laid_placed = given.layouts.placed symbols is.later.later laid n kept is.later.is is.section.kept_there
+  laid_placed = given.layouts.placed symbols is.later.later laid n kept is.later.is is.later.there
 
   address_is : got_item.0 ≡ at
   address_is = placed_at kept.items 0 index one (ap (λ (s : SectionOf LaidItem). slice_get s.items index) laid_placed ∙ item_kept)
 
   counted : All (CountsItems kept.fields kept.items) kept.fields
-  counted = given.counts.counted symbols is.later.later laid n is.section.section kept is.later.is is.section.there is.section.kept_there is.section.within
+  counted = given.counts.counted symbols is.later.later laid n whole kept is.later.is more.there is.later.there whole_within
 
   own_counts : CountsItems kept.fields kept.items own
   own_counts = All-there (CountsItems kept.fields kept.items) kept.fields number own field_kept counted
@@ -204,10 +204,10 @@ module _ (given : Given) (symbols : SymbolMap) (laid : LaidSections) (pos : Pos)
 
   filed : IsFiled laid n kept
   filed = record {
-    found = is.section.kept_there;
-    takes_bytes = is.section.takes_bytes;
+    found = is.later.there;
+    takes_bytes = is.later.takes_bytes;
     laid = laid_placed;
-    sized = given.layouts.sized symbols is.later.later laid n kept is.later.is is.section.kept_there;
+    sized = given.layouts.sized symbols is.later.later laid n kept is.later.is is.later.there;
   }
 
   piece : PieceAt (image_of symbols laid) (section_offset symbols laid n + at) bytes
@@ -230,7 +230,7 @@ module _ (given : Given) (symbols : SymbolMap) (laid : LaidSections) (pos : Pos)
   ends : at + size ≤ whole_size kept
   ends =
       let later : IsLaidLater placed.sections laid = record { symbols = symbols; later = is.later.later; grows = is.later.grows; is = is.later.is } in
-      let within = (given.inside placed.sections laid n new kept later placed_there is.section.kept_there).inside in
+      let within = (given.inside placed.sections laid n new kept later placed_there is.later.there).inside in
       let there : place_in laid n placed.sections ≡ end_in kept.items new =
       ap (λ found. option_map_or (end_in (items_in laid n)) found 0) placed_there ∙ ap (λ (items : List LaidItem). end_in items new) items_are in
       let moves = given.moves.growing pos n (Jump condition) text.displacement.suffix form first kept.items in
@@ -242,20 +242,20 @@ module _ (given : Given) (symbols : SymbolMap) (laid : LaidSections) (pos : Pos)
   -- a byte that a linker leaves alone
   loaded_byte : (k : ℕ) → k < size → (field_relocation symbols laid n kept own ≡ None) ⊎ (k + 4 < size) → slice_get code (at + k) ≡ slice_get bytes k
   loaded_byte k few free =
-      let low = given.counts.low symbols is.later.later laid n is.section.section kept is.later.is is.section.there is.section.kept_there is.section.within in
-      let alone = all_alone given.addresses symbols laid n kept laid_placed index k one item_kept few (Jump condition) number refl own field_kept free counted low is.section.hold in
+      let low = given.counts.low symbols is.later.later laid n whole kept is.later.is more.there is.later.there whole_within in
+      let alone = all_alone given.addresses symbols laid n kept laid_placed index k one item_kept few (Jump condition) number refl own field_kept free counted low is.later.relocated in
       let beside = given.relocations symbols laid n (at + k) kept alone in
       let end = ends in
       let count = long in
       let front = piece.long in
       let place : section_offset symbols laid n + (at + k) ≡ length piece.front + k = omega (arith, front) in
-      is.section.loaded.same (at + k) (omega (arith, few, end)) beside
+      is.later.loaded.same (at + k) (omega (arith, few, end)) beside
       ∙ ap (λ (xs : List ℕ). slice_get xs (section_offset symbols laid n + (at + k))) piece.whole
       ∙ ap (slice_get (piece.front ++ (bytes ++ piece.rest))) place ∙ get_after piece.front (bytes ++ piece.rest) k
       ∙ get_within bytes piece.rest k (omega (arith, few, count))
 
   code_long : at + size ≤ length code
-  code_long = let all = is.section.loaded.long in let end = ends in omega (arith, all, end)
+  code_long = let all = is.later.loaded.long in let end = ends in omega (arith, all, end)
 
   abbrev Stands : Option ℕ → Type 0
   Stands held = JumpBytesStand condition held code at size
@@ -319,7 +319,7 @@ module _ (given : Given) (symbols : SymbolMap) (laid : LaidSections) (pos : Pos)
       let there_long : length there ≡ size = length-take size (drop at code) ∙ (omega (arith, dropped, all)) in
       let true_long : length (jump_bytes condition true value) ≡ size = ap (λ b. length (jump_bytes condition b value)) (sym is_near) ∙ count in
       let other = given.loaded condition value there (there_long ∙ sym true_long)
-      (take_bytes (drop at code) size (drop_bytes code at is.section.loaded.bytes))
+      (take_bytes (drop at code) size (drop_bytes code at is.later.loaded.bytes))
       (λ k few. near_byte there there_long is_near k few refl) in
       near_stands other.0 there other.1 there_long refl
 

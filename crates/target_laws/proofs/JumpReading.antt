@@ -19,7 +19,8 @@ use Rattle.asm_relax.specs.Settling.{LaidItem, LaidSections}
 use Rattle.scfi_laws.specs.Laid.{plain, directed, ReadsOnly, ReadsFlow, ReadsItem}
 use Rattle.item_readings.specs.Items.{LeadsTo, LeadsInside, JumpItemsAreRead}
 use Rattle.asm_place.specs.JumpPlaces.{jump_form, jump_field}
-use Rattle.place_laws.specs.Jumps.{JumpsLead}
+use Rattle.place_laws.specs.Jumps.{IsLowLater, JumpsLead}
+use Rattle.place_laws.specs.Low.{LayoutsAreLow}
 use Rattle.target_laws.specs.Targets.{place_address, TargetsAreItems}
 use Rattle.target_laws.proofs.Fitting.{jump_goes, some_bytes, jump_fits}
 use Rattle.target_laws.specs.Jumps.{jump_place, jump_length, LoadedJumpsStand, jump_kind, JumpsAreRead}
@@ -85,7 +86,7 @@ module _ (starts : ℕ → ℕ) (code : List ℕ) (place size : ℕ) (item : Cod
 
 -- THE JUMP
 
-module _ (loaded : LoadedJumpsStand) (labels : TargetsAreItems) (lead : JumpsLead) (reads : JumpItemsAreRead) where
+module _ (loaded : LoadedJumpsStand) (labels : TargetsAreItems) (lead : JumpsLead) (stand_low : LayoutsAreLow) (reads : JumpItemsAreRead) where
   pub jumps_are_read : JumpsAreRead
   jumps_are_read symbols laid pos tokens text condition before placed code fields items item node starts number is ordered names_none suffix field_there jump begin =
       let stands = loaded symbols laid pos tokens text condition before placed code is in
@@ -116,7 +117,9 @@ module _ (loaded : LoadedJumpsStand) (labels : TargetsAreItems) (lead : JumpsLea
         suffix = suffix;
       }) (sym target_is ∙ inside) in
       let address = place_address laid before.current branch.code.place in
-      let value = lead symbols laid pos tokens text condition before placed is.put branch.symbol 0 address is.later branch.branch in
+      let later : IsLowLater symbols placed.sections laid =
+      record { later = is.later.later; grows = is.later.grows; is = is.later.is; low = stand_low.items symbols is.later.later laid is.later.is is.later.within } in
+      let value = lead symbols laid pos tokens text condition before placed is.put branch.symbol 0 address later branch.branch in
       let held = stands.value value.value value.held in
       let there = value.leads in
       let low = address_low laid before.current branch.code.place.item branch.code.place.offset in

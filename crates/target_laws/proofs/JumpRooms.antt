@@ -24,7 +24,6 @@ use Rattle.item_bytes.specs.declared.jumps.Condition.{Condition}
 use Rattle.item_contents.specs.declared.contents.Content.TheVariants.{Growing}
 use Rattle.item_contents.specs.declared.kinds.Growth.TheVariants.{Jump}
 use Rattle.row_distances.specs.Places.{meant_place, place_of}
-use Rattle.section_laws.specs.Within.{AreWithin}
 use Rattle.item_rows.specs.ItemRows.{own_of}
 use Rattle.asm_relax.specs.ItemValues.{StandsIn, IsInItem}
 use Rattle.asm_relax.specs.KeptSections.{kept_section, kept_items, LayoutsKeepSections}
@@ -36,8 +35,9 @@ use Rattle.asm_place.specs.Instructions.{with_more, IsContinued}
 use Rattle.asm_place.specs.JumpPlaces.{IsJumpPut, jump_form, items_so_far, jump_field}
 use Rattle.asm_place.specs.SymbolPlaces.{HasItems, MeaningStands}
 use Rattle.place_laws.specs.Ends.{items_in, size_at}
-use Rattle.place_laws.specs.Jumps.{IsLowLater, laid_jump_field}
+use Rattle.place_laws.specs.Jumps.{laid_jump_field}
 use Rattle.place_laws.specs.Low.{LayoutsAreLow}
+use Rattle.code_laws.specs.Sections.{IsLoadedLater}
 use Rattle.target_laws.specs.Targets.{NamesNoField}
 use Rattle.target_laws.specs.Jumps.{jump_length}
 use Rattle.target_laws.specs.Rooms.{StandIn, JumpsHaveRoom}
@@ -97,7 +97,7 @@ module _ (symbols : SymbolMap) (sections : List LooseSection) (last : ℕ) (stan
 -- THE JUMP
 
 module _ (facts : Facts) (symbols : SymbolMap) (laid : LaidSections) (pos : Pos) (tokens : List SpelledToken) (text : InsnText) (condition : Option Condition)
-    (before placed : Placed) (put : IsJumpPut pos tokens text condition before placed) (later : IsLowLater symbols placed.sections laid) (within : AreWithin later.later)
+    (before placed : Placed) (code : List ℕ) (put : IsJumpPut pos tokens text condition before placed) (later : IsLoadedLater symbols laid before.current placed.sections code)
     (stand : StandIn symbols later.later) (plain : NamesNoField put.jump.forms.displacement) where
   abbrev n : ℕ
   n = before.current
@@ -206,11 +206,11 @@ module _ (facts : Facts) (symbols : SymbolMap) (laid : LaidSections) (pos : Pos)
   has_room =
       let settled : laid ≡ settled_sections symbols (planned symbols later.later) = facts.layouts.settled symbols later.later laid later.is in
       let room : Room (settled_sections symbols (planned symbols later.later)) got_item.1 own =
-      facts.room symbols (planned symbols later.later) n index number kept one (Jump condition) own (facts.low.rows symbols later.later laid later.is within) in_item
+      facts.room symbols (planned symbols later.later) n index number kept one (Jump condition) own (facts.low.rows symbols later.later laid later.is later.within) in_item
       (ap (λ (all : LaidSections). slice_get all n) (sym settled) ∙ own_shifts.1) got_item.2 refl field_kept in
       subst (λ (field : Field). Room laid (jump_length laid before) field) (ap (substituted_field (linked symbols)) (sym field_is))
       (subst (λ size. Room laid size own) (sym size_is) (subst (λ (all : LaidSections). Room all got_item.1 own) (sym settled) room))
 
 pub jumps_have_room : Facts → JumpsHaveRoom
-jumps_have_room facts symbols laid pos tokens text condition before placed put later within stand plain =
-    has_room facts symbols laid pos tokens text condition before placed put later within stand plain
+jumps_have_room facts symbols laid pos tokens text condition before placed code put later stand plain =
+    has_room facts symbols laid pos tokens text condition before placed code put later stand plain

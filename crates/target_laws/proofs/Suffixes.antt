@@ -13,6 +13,7 @@ use Rattle.asm_frags.specs.declared.fields.FieldSize.{FieldSize}
 use Rattle.asm_frags.specs.Fields.{own_place}
 use Rattle.asm_frags.specs.SectionOf.{SectionOf}
 use Rattle.asm_frags.specs.Substituting.{substituted_field}
+use Rattle.asm_frags.specs.Writing.{LooseSection}
 use Rattle.assigned_forms.specs.Linked.{linked}
 use Rattle.x86_insn.specs.declared.amounts.FieldKind.TheVariants.{Branch}
 use Rattle.x86_insn.specs.declared.amounts.Suffix.{Suffix}
@@ -20,7 +21,7 @@ use Rattle.x86_insn.specs.declared.amounts.Suffix.TheVariants as suffix
 use Rattle.item_rows.specs.Links.{leaves_weak, is_suffixed}
 use Rattle.asm_relax.specs.FieldValues.{counted, place_label, told_in_field, held_value}
 use Rattle.asm_relax.specs.KeptSections.{kept_section, LayoutsKeepSections}
-use Rattle.asm_relax.specs.Settling.{LaidItem, LooseSections, LaidSections, unless, layout_of}
+use Rattle.asm_relax.specs.Settling.{LaidItem, LaidSections, unless}
 use Rattle.elf_object.specs.declared.faults.ObjectCause.{ObjectCause}
 use Rattle.elf_object.specs.declared.references.Reference.{Reference}
 use Rattle.elf_object.specs.declared.relocations.Relocation.{Relocation}
@@ -29,9 +30,11 @@ use Rattle.elf_object.specs.FieldRelocations.{IsFiledField, ValuelessFieldsHaveO
 use Rattle.elf_object.specs.Image.{image_of}
 use Rattle.elf_object.specs.Objects.{object_of}
 use Rattle.elf_object.specs.Relocations.{kind_by, kind_for, relocation_with, relocation, field_place, final_reference, field_relocation}
+use Rattle.asm_place.specs.Instructions.{with_more}
+use Rattle.code_laws.specs.Sections.{IsLoadedLater}
 use Rattle.target_laws.specs.Targets.{AreExpandable}
-use Rattle.target_laws.specs.Jumps.{IsLoadedSection}
 use Rattle.target_laws.specs.Rooms.{HoldsTarget, BranchesAreSaid}
+use Rattle.target_laws.proofs.Elements.{get_first}
 use Rattle.target_laws.proofs.OwnPlaces.{names_own_place}
 
 -- what is known of layouts, of forms and of objects
@@ -81,34 +84,37 @@ no_fault : (fault : Option ObjectCause) (made object : List ℕ) → unless faul
 no_fault None made object is = refl
 no_fault (Some cause) made object is = absurd (cc)
 
-module _ (facts : Facts) (symbols : SymbolMap) (sections : LooseSections) (laid : LaidSections) (number index : ℕ) (code object : List ℕ) (field : Field)
-    (is : layout_of symbols sections ≡ Ok laid) (made : object_of symbols laid ≡ Ok object) (expandable : AreExpandable symbols)
-    (there : IsLoadedSection symbols sections laid number code) (field_there : slice_get there.section.fields index ≡ Some field) (holds : HoldsTarget field) where
+module _ (facts : Facts) (symbols : SymbolMap) (laid : LaidSections) (number index : ℕ) (sections : List LooseSection) (section : LooseSection) (code object : List ℕ) (field : Field)
+    (l : IsLoadedLater symbols laid number sections code) (made : object_of symbols laid ≡ Ok object) (expandable : AreExpandable symbols)
+    (there : slice_get sections number ≡ Some section) (field_there : slice_get section.fields index ≡ Some field) (holds : HoldsTarget field) where
   abbrev own : Field
   own = substituted_field (linked symbols) field
 
-  own_there : slice_get there.kept.fields index ≡ Some own
+  -- the field in the layout
+  own_there : slice_get l.kept.fields index ≡ Some own
   own_there =
-      let got = facts.layouts.section symbols sections laid number there.section is there.there in
-      let kept_is : there.kept ≡ kept_section symbols got.0 there.section = same_Some there.kept (kept_section symbols got.0 there.section) (sym there.kept_there ∙ got.1) in
-      ap (λ (s : SectionOf LaidItem). slice_get s.fields index) kept_is ∙ slice_get-map (substituted_field (linked symbols)) there.section.fields index
-      ∙ ap (option_map (substituted_field (linked symbols))) field_there
+      let more = l.grows.kept number section there in
+      let last = with_more section more.bytes more.fields more.items in
+      let got = facts.layouts.section symbols l.later laid number last l.is more.there in
+      let kept_is : l.kept ≡ kept_section symbols got.0 last = same_Some l.kept (kept_section symbols got.0 last) (sym l.there ∙ got.1) in
+      ap (λ (s : SectionOf LaidItem). slice_get s.fields index) kept_is ∙ slice_get-map (substituted_field (linked symbols)) last.fields index
+      ∙ ap (option_map (substituted_field (linked symbols))) (get_first section.fields more.fields index field field_there)
 
   counts : coefficient own.form own_place ≡ 2 ^ 64 - 1
   counts = ap (λ (f : Form). coefficient (linked symbols f) own_place) holds.form ∙ names_own_place symbols expandable holds.target holds.plain
 
-  filed : IsFiledField laid number index there.kept own
-  filed = record { found = there.kept_there; takes_bytes = there.takes_bytes; there = own_there }
+  filed : IsFiledField laid number index l.kept own
+  filed = record { found = l.there; takes_bytes = l.takes_bytes; there = own_there }
 
   -- with such a suffix it would have neither
   unsaid : (said : Suffix) → field.role.suffix ≡ Some said → IsUnsaid said → ⊥
   unsaid said suffixed none =
-      let one = facts.valueless symbols laid number index there.kept own (no_fault (object_fault symbols laid) (image_of symbols laid) object made) filed
+      let one = facts.valueless symbols laid number index l.kept own (no_fault (object_fault symbols laid) (image_of symbols laid) object made) filed
       (no_value facts symbols laid own (ap is_suffixed suffixed) counts) in
       let kinds : (relative local : Bool) → kind_for relative own.role local own.size ≡ None =
       λ relative local. ap (λ s. kind_by s relative field.role.kind local field.size) suffixed
       ∙ ap (λ k. kind_by (Some said) relative k local field.size) holds.kind ∙ none relative local field.size in
-      none-some one.0 (sym (no_relocation symbols laid number there.kept own kinds) ∙ one.1.says)
+      none-some one.0 (sym (no_relocation symbols laid number l.kept own kinds) ∙ one.1.says)
 
   said_by : (said : Option Suffix) → field.role.suffix ≡ said → (field.role.suffix ≡ None) ⊎ (field.role.suffix ≡ Some suffix.Plt)
   said_by None so = inl so
@@ -118,5 +124,5 @@ module _ (facts : Facts) (symbols : SymbolMap) (sections : LooseSections) (laid 
   said_by (Some suffix.TpOff) so = absurd (unsaid suffix.TpOff so (λ relative local size. refl))
 
 pub branches_are_said : Facts → BranchesAreSaid
-branches_are_said facts symbols sections laid number index code object field is made expandable there field_there holds =
-    said_by facts symbols sections laid number index code object field is made expandable there field_there holds field.role.suffix refl
+branches_are_said facts symbols laid number index sections section code object field l made expandable there field_there holds =
+    said_by facts symbols laid number index sections section code object field l made expandable there field_there holds field.role.suffix refl

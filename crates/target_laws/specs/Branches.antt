@@ -26,9 +26,9 @@ use Rattle.asm_values.specs.State.{Placed}
 use Rattle.asm_place.specs.Coding.{shape_in, view_in, values_in, immediate_field}
 use Rattle.asm_place.specs.CodePlaces.{ValueForms, IsCoded, IsInsnPut, field_in}
 use Rattle.asm_place.specs.Instructions.{next_item, next_offset}
-use Rattle.place_laws.specs.Jumps.{IsLowLater}
+use Rattle.code_laws.specs.Sections.{IsLoadedLater}
 use Rattle.target_laws.specs.Targets.{NamesNoField, AreExpandable}
-use Rattle.target_laws.specs.Jumps.{IsLoadedSection, AreStarts, IsItemAt, jump_place, jump_kind}
+use Rattle.target_laws.specs.Jumps.{AreStarts, IsItemAt, jump_place, jump_kind}
 
 -- WHAT THEY ARE
 
@@ -56,14 +56,13 @@ TargetsAreAlone = (text : InsnText) (values : Values) (made : Coding) (falls : B
 
 -- WHAT IS READ WHERE THEY ARE LOADED
 
--- an instruction that was put is loaded where the layout has a place for it, with any bytes in its
--- fields
+-- an instruction that was put is loaded where the layout of later sections has a place for it, with
+-- any bytes in its fields
 pub record IsBranchLoaded (symbols : SymbolMap) (laid : LaidSections) (pos : Pos)
     (tokens : List SpelledToken) (text : InsnText) (before placed : Placed) (code : List ℕ)
     : Type 0 where
   pub put : IsInsnPut pos tokens text before placed
-  pub later : IsLowLater symbols placed.sections laid
-  pub section : IsLoadedSection symbols later.later laid before.current code
+  pub later : IsLoadedLater symbols laid before.current placed.sections code
   pub loaded : coded.IsLoaded put.coded.made
       (slice_range code (jump_place laid before)
       (jump_place laid before + length put.coded.made.bytes))

@@ -1,12 +1,9 @@
 -- Direct jumps of functions where they are loaded.
-use Rattle.std.specs.Prelude.{◌≡◌, ◌==◌, ◌++◌, ◌⊎◌, ℕ, Bool, false, List, All, Option, None, Some, drop, length, slice_get, if◌then◌else◌}
+use Rattle.std.specs.Prelude.{◌≡◌, ◌++◌, ◌⊎◌, ℕ, Bool, List, Option, None, Some, drop, length, slice_get, if◌then◌else◌}
 use Rattle.asm_base.specs.Tokens.{SpelledToken}
 use Rattle.asm_base.specs.declared.positions.Pos.{Pos}
 use Rattle.asm_symbols.specs.SymbolMap.{SymbolMap}
 use Rattle.asm_frags.specs.declared.fields.Field.{Field}
-use Rattle.asm_frags.specs.SectionOf.{SectionOf}
-use Rattle.asm_frags.specs.Writing.{LooseSection}
-use Rattle.section_laws.specs.Within.{IsWithin}
 use Rattle.item_bytes.specs.declared.jumps.Condition.{Condition}
 use Rattle.item_bytes.specs.Jumps.{is_conditional, jump_bytes, jump_distance}
 use Rattle.item_contents.specs.declared.kinds.Growth.TheVariants.{Jump}
@@ -23,38 +20,18 @@ use Rattle.flow_graph.specs.declared.nodes.Node.{Node}
 use Rattle.flow_graph.specs.Nodes.{node_of}
 use Rattle.scfi_laws.specs.Laid.{Kind, plain, directed, Fits, ReadsItem}
 use Rattle.asm_relax.specs.FieldValues.{held_value}
-use Rattle.asm_relax.specs.RangeChecks.{whole_size}
 use Rattle.asm_relax.specs.SettledRoom.{HasRoomFor}
-use Rattle.asm_relax.specs.Settling.{LaidItem, LaidSections, LooseSections}
-use Rattle.elf_file.specs.Sections.{no_bits}
-use Rattle.elf_object.specs.Contents.{section_relocations}
-use Rattle.elf_object.specs.Image.{image_of}
-use Rattle.elf_object.specs.Places.{section_offset}
+use Rattle.asm_relax.specs.Settling.{LaidSections}
 use Rattle.asm_values.specs.State.{Placed}
 use Rattle.asm_place.specs.Coding.{view_in}
 use Rattle.asm_place.specs.CodePlaces.{jump_in}
 use Rattle.asm_place.specs.JumpPlaces.{IsJumpPut, jump_form, items_so_far, jump_field}
 use Rattle.place_laws.specs.Ends.{items_in, place_in, size_at}
-use Rattle.place_laws.specs.Jumps.{IsLowLater, laid_jump_field}
-use Rattle.loaded_laws.specs.Beside.{HoldsRelocated}
-use Rattle.loaded_laws.specs.Loaded.{IsLoaded}
+use Rattle.place_laws.specs.Jumps.{laid_jump_field}
+use Rattle.code_laws.specs.Sections.{IsLoadedLater}
 use Rattle.target_laws.specs.Targets.{NamesNoField, AreExpandable, place_address}
 
 -- WHERE THEIR BYTES STAND
-
--- the section of this number of a layout has bytes in the object, and these are what a linker makes
--- of it; each item that holds a field with a relocation has the bytes of the field
-pub record IsLoadedSection (symbols : SymbolMap) (sections : LooseSections) (laid : LaidSections)
-    (number : ℕ) (code : List ℕ) : Type 0 where
-  pub section : LooseSection
-  pub there : slice_get sections number ≡ Some section
-  pub within : IsWithin section
-  pub kept : SectionOf LaidItem
-  pub kept_there : slice_get laid number ≡ Some kept
-  pub takes_bytes : (kept.kind == no_bits) ≡ false
-  pub hold : All (HoldsRelocated symbols laid number kept) kept.fields
-  pub loaded : IsLoaded (image_of symbols laid) (section_offset symbols laid number)
-      (whole_size kept) (section_relocations symbols laid number kept) code
 
 -- the place of a jump that is put where these statements end
 abbrev pub jump_place : LaidSections → Placed → ℕ
@@ -64,13 +41,12 @@ jump_place laid before = place_in laid before.current before.sections
 abbrev pub jump_length : LaidSections → Placed → ℕ
 jump_length laid before = size_at (items_in laid before.current) (items_so_far before)
 
--- a jump that was put is loaded where the layout has a place and room for it
+-- a jump that was put is loaded where the layout of later sections has a place and room for it
 pub record IsJumpLoaded (symbols : SymbolMap) (laid : LaidSections) (pos : Pos)
     (tokens : List SpelledToken) (text : InsnText) (condition : Option Condition)
     (before placed : Placed) (code : List ℕ) : Type 0 where
   pub put : IsJumpPut pos tokens text condition before placed
-  pub later : IsLowLater symbols placed.sections laid
-  pub section : IsLoadedSection symbols later.later laid before.current code
+  pub later : IsLoadedLater symbols laid before.current placed.sections code
   pub room : HasRoomFor symbols laid (Jump condition) (jump_length laid before)
       (laid_jump_field symbols pos tokens text condition before placed put)
 

@@ -6,38 +6,41 @@ use Rattle.asm_base.specs.declared.positions.Pos.{Pos}
 use Rattle.asm_expr.specs.Forms.{Form}
 use Rattle.asm_symbols.specs.SymbolMap.{SymbolMap}
 use Rattle.asm_frags.specs.declared.fields.Field.{Field}
-use Rattle.section_laws.specs.Within.{AreWithin}
+use Rattle.asm_frags.specs.Writing.{LooseSection}
 use Rattle.item_bytes.specs.declared.jumps.Condition.{Condition}
 use Rattle.item_contents.specs.declared.kinds.Growth.TheVariants.{Jump}
 use Rattle.x86_insn.specs.declared.amounts.FieldKind.TheVariants.{Branch}
 use Rattle.x86_insn.specs.declared.amounts.Suffix.TheVariants.{Plt}
 use Rattle.asm_relax.specs.SettledRoom.{HasRoomFor}
-use Rattle.asm_relax.specs.Settling.{LooseSections, LaidSections, layout_of}
+use Rattle.asm_relax.specs.Settling.{LooseSections, LaidSections}
 use Rattle.elf_object.specs.Objects.{object_of}
 use Rattle.att_insns.specs.InsnTexts.{InsnText}
 use Rattle.asm_values.specs.State.{Placed}
 use Rattle.asm_place.specs.Coding.{from_own_place}
 use Rattle.asm_place.specs.JumpPlaces.{IsJumpPut}
 use Rattle.asm_place.specs.SymbolPlaces.{MeaningStands}
-use Rattle.place_laws.specs.Jumps.{IsLowLater, laid_jump_field}
+use Rattle.place_laws.specs.Jumps.{laid_jump_field}
+use Rattle.code_laws.specs.Sections.{IsLoadedLater}
 use Rattle.target_laws.specs.Targets.{NamesNoField, AreExpandable}
-use Rattle.target_laws.specs.Jumps.{IsLoadedSection, jump_length}
+use Rattle.target_laws.specs.Jumps.{jump_length}
 
--- the symbols stand in these sections: assigned ones can be put into forms, and each that has a
--- place stands in a section that is there, behind items of it
+-- the symbols stand in these sections: assigned ones can be put into forms, which name no symbol
+-- above the last number, and each that has a place stands in a section that is there, behind some
+-- of its items
 pub record StandIn (symbols : SymbolMap) (sections : LooseSections) : Type 0 where
   pub expandable : AreExpandable symbols
   pub last : ℕ
   pub stand : All (λ symbol. MeaningStands sections last symbol.meaning) symbols.symbols
 
--- the item of a direct jump that was put has room for what its field holds, in a layout of later
--- sections in which symbols stand. Its target names no place of a field
+-- the item of a direct jump that was put has room for what its field holds, where its section is
+-- loaded in a layout of later sections in which symbols stand. Its target names no place of a field
 abbrev pub JumpsHaveRoom : Type 0
 JumpsHaveRoom = (symbols : SymbolMap) (laid : LaidSections) (pos : Pos)
     (tokens : List SpelledToken) (text : InsnText) (condition : Option Condition)
-    (before placed : Placed) (put : IsJumpPut pos tokens text condition before placed)
-    (later : IsLowLater symbols placed.sections laid) → AreWithin later.later
-    → StandIn symbols later.later → NamesNoField put.jump.forms.displacement
+    (before placed : Placed) (code : List ℕ)
+    (put : IsJumpPut pos tokens text condition before placed)
+    (loaded : IsLoadedLater symbols laid before.current placed.sections code)
+    → StandIn symbols loaded.later → NamesNoField put.jump.forms.displacement
     → HasRoomFor symbols laid (Jump condition) (jump_length laid before)
     (laid_jump_field symbols pos tokens text condition before placed put)
 
@@ -51,9 +54,9 @@ pub record HoldsTarget (field : Field) : Type 0 where
 -- where there is an object, `@PLT` is said of the target of each branch, or nothing is: the linker
 -- has no relocation for a branch with another suffix
 abbrev pub BranchesAreSaid : Type 0
-BranchesAreSaid = (symbols : SymbolMap) (sections : LooseSections) (laid : LaidSections)
-    (number index : ℕ) (code object : List ℕ) (field : Field) → layout_of symbols sections ≡ Ok laid
-    → object_of symbols laid ≡ Ok object → AreExpandable symbols
-    → (is : IsLoadedSection symbols sections laid number code)
-    → slice_get is.section.fields index ≡ Some field → HoldsTarget field
+BranchesAreSaid = (symbols : SymbolMap) (laid : LaidSections) (number index : ℕ)
+    (sections : List LooseSection) (section : LooseSection) (code object : List ℕ) (field : Field)
+    → IsLoadedLater symbols laid number sections code → object_of symbols laid ≡ Ok object
+    → AreExpandable symbols → slice_get sections number ≡ Some section
+    → slice_get section.fields index ≡ Some field → HoldsTarget field
     → (field.role.suffix ≡ None) ⊎ (field.role.suffix ≡ Some Plt)

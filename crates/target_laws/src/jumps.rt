@@ -9,7 +9,7 @@ use item_bytes::jump_reads_back;
 use item_readings::items_are_read;
 use jump_laws::conditions_are_numbered;
 use loaded_laws::{layouts_keep_counts, relocations_beside, values_are_alone};
-use place_laws::{ends_move, jumps_lead, places_are_inside};
+use place_laws::{ends_move, jumps_lead, layouts_are_low, places_are_inside};
 use step_readings::jumps_obey;
 
 /// The bytes of a direct jump are loaded at its place in the layout: over the distance that its
@@ -46,5 +46,6 @@ pub fn jumps_are_read()
     loaded_jumps_stand();
     targets_are_items();
     jumps_lead();
+    layouts_are_low();
     items_are_read();
 }

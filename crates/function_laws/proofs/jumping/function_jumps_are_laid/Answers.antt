@@ -21,7 +21,6 @@ returns c =
         seen = c.jumps_are_seen.ensures.seen;
         read_jump = c.jumps_are_read.ensures;
         read_branch = c.branches_are_read.ensures;
-        low = c.layouts_are_low.ensures;
         room = c.jumps_have_room.ensures;
         said = c.branches_are_said.ensures;
       };
