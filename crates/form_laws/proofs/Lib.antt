@@ -10,9 +10,11 @@ mod There
 mod Below
 mod Forward
 mod Instructions
+mod Framing
 mod Fitting
 mod Trees
 mod Texts
 mod AttTexts
 mod IntelTexts
 mod Small
+mod Spelling

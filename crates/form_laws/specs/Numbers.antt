@@ -1,6 +1,6 @@
 -- How large numbers are in the forms of assigned symbols and of instructions.
 use Rattle.std.specs.Prelude.{◌≡◌, ◌<◌, ◌^◌, ℕ, Bool, List, All, Some, Ok}
-use Rattle.asm_base.specs.Tokens.{SpelledToken}
+use Rattle.asm_base.specs.Tokens.{SpelledToken, tokens_of}
 use Rattle.asm_base.specs.declared.positions.Pos.{Pos}
 use Rattle.asm_expr.specs.Forms.{Form}
 use Rattle.asm_lines.specs.NextStatements.{TokenStatement}
@@ -19,6 +19,11 @@ IsInBytes token = All (λ byte. byte < 2 ^ 8) token.bytes
 -- each token of the statement is
 abbrev pub IsSpelled : TokenStatement → Type 0
 IsSpelled s = All IsInBytes s.tokens
+
+-- so is each that is read from bytes
+abbrev pub TokensAreInBytes : Type 0
+TokensAreInBytes = (bytes : List ℕ) → All (λ byte. byte < 2 ^ 8) bytes
+    → All IsInBytes (tokens_of bytes)
 
 -- the numbers in the forms of assigned symbols have 64 bits
 abbrev pub FormsFit : SymbolMap → Type 0

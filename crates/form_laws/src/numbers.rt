@@ -1,9 +1,14 @@
 //! How large the numbers of forms are.
 
-ghost use Rattle.form_laws.specs.Numbers.{FormsBeginFitting, FormsStayFitting, ValuesFit};
+ghost use Rattle.form_laws.specs.Numbers.{FormsBeginFitting, FormsStayFitting, TokensAreInBytes, ValuesFit};
 
 use asm_frames::frame_directives_keep_all_else;
 use expr_texts::read_is_written;
+
+/// The tokens of bytes are spelled in bytes.
+pub fn tokens_are_in_bytes()
+    ensures { TokensAreInBytes }
+{}
 
 /// Whatever statements are placed that are spelled in bytes, the numbers in the forms of assigned
 /// symbols have 64 bits.

@@ -1,0 +1,65 @@
+-- A frame table adds labels alone to the symbols of a source.
+use Rattle.std.proofs.Common.{◌≡◌, ℕ, Bool, true, false, cond, List, [], ◌∷◌, ◌++◌, length, Option, None, Some, Result, Ok, Err, sym, ap, subst, slice_get}
+use Rattle.std.specs.Prelude.{codes}
+use Rattle.std.proofs.lemmas.List.{append-nil}
+use Rattle.std.proofs.lemmas.List.Elements.{All-nil, All-weaker}
+use Rattle.asm_base.specs.declared.causes.FragCause.{FragCause}
+use Rattle.asm_base.specs.declared.causes.FragCause.TheVariants.{BadSection}
+use Rattle.asm_base.specs.declared.places.SectionPlace.{SectionPlace}
+use Rattle.asm_base.specs.declared.positions.Pos.{Pos}
+use Rattle.asm_frags.specs.SectionOf.{section_number}
+use Rattle.asm_frags.specs.Writing.{LooseSection, takes_zeros_alone}
+use Rattle.asm_symbols.specs.declared.entries.Symbol.{Symbol}
+use Rattle.asm_symbols.specs.Attributes.{is_weak}
+use Rattle.asm_symbols.specs.SymbolMap.{SymbolMap}
+use Rattle.cfi_directives.specs.declared.frames.Frame.{Frame}
+use Rattle.eh_frame.specs.Labels.{IsLabelAt, GetsLabels}
+use Rattle.eh_frame.specs.Marks.{place_name}
+use Rattle.eh_frame.specs.Pieces.{Tables, tables_of}
+use Rattle.eh_frame.specs.Placing.{table_put, new_table, placed_there, placed_in, placed}
+use Rattle.flow_graph.specs.AddedLabels.{IsStrongLabel, AddsLabels}
+use Rattle.form_laws.proofs.Steps.{err-ok, same_Ok}
+
+-- labels of places are labels, and none is weak
+gets_labels : (before after : SymbolMap) → GetsLabels before after → AddsLabels before after
+gets_labels before after gets = record {
+  labels = gets.labels;
+  all = gets.all;
+  each = All-weaker (λ (label : Symbol). (at : SectionPlace) × (label.name ≡ place_name at) × IsLabelAt at label) IsStrongLabel
+      (λ label is. record { spot = is.2.spot; means = is.2.means; strong = ap is_weak is.2.unbound }) gets.labels gets.each;
+}
+
+none_added : (map : SymbolMap) → AddsLabels map map
+none_added map = record { labels = []; all = sym (append-nil map.symbols); each = All-nil IsStrongLabel }
+
+-- the law of tables
+abbrev pub TablesGetLabels : Type 0
+TablesGetLabels = (section : ℕ) (pos : Pos) (frames : List Frame) (tables : Tables) → GetsLabels tables.symbols (table_put section pos frames tables).symbols
+
+module _ (law : TablesGetLabels) where
+  put_adds : (section : ℕ) (pos : Pos) (frames : List Frame) (tables after : Tables) → (let made : Result Tables FragCause = Ok (table_put section pos frames tables) in made ≡ Ok after)
+      → AddsLabels tables.symbols after.symbols
+  put_adds section pos frames tables after is =
+      subst (λ (made : Tables). AddsLabels tables.symbols made.symbols) (same_Ok (table_put section pos frames tables) after is)
+      (gets_labels tables.symbols (table_put section pos frames tables).symbols (law section pos frames tables))
+
+  held_adds : (section : ℕ) (b : Bool) (pos : Pos) (frames : List Frame) (tables after : Tables) → cond b (Err BadSection) (Ok (table_put section pos frames tables)) ≡ Ok after
+      → AddsLabels tables.symbols after.symbols
+  held_adds section true pos frames tables after is = err-ok BadSection after is
+  held_adds section false pos frames tables after is = put_adds section pos frames tables after is
+
+  there_adds : (section : ℕ) (found : Option LooseSection) (pos : Pos) (frames : List Frame) (tables after : Tables) → placed_there section found pos frames tables ≡ Ok after
+      → AddsLabels tables.symbols after.symbols
+  there_adds section None pos frames tables after is = err-ok BadSection after is
+  there_adds section (Some held) pos frames tables after is = held_adds section (takes_zeros_alone held) pos frames tables after is
+
+  in_adds : (number : Option ℕ) (pos : Pos) (frames : List Frame) (tables after : Tables) → placed_in number pos frames tables ≡ Ok after → AddsLabels tables.symbols after.symbols
+  in_adds (Some section) pos frames tables after is = there_adds section (slice_get tables.sections section) pos frames tables after is
+  in_adds None pos frames tables after is =
+      put_adds (length tables.sections) pos frames (tables_of tables.symbols (tables.sections ++ new_table ∷ [])) after is
+
+  -- a table adds labels alone
+  pub table_adds : (frames : List Frame) (tables after : Tables) → placed frames tables ≡ Ok after → AddsLabels tables.symbols after.symbols
+  unfolding placed
+  table_adds [] tables after is = subst (λ (made : Tables). AddsLabels tables.symbols made.symbols) (same_Ok tables after is) (none_added tables.symbols)
+  table_adds (frame ∷ frames) tables after is = in_adds (section_number (codes ".eh_frame") tables.sections) frame.pos (frame ∷ frames) tables after is
