@@ -16,3 +16,4 @@ pub mod Instructing
 pub mod Dispatching
 pub mod JumpWriting
 pub mod Joining
+pub mod Numbering

@@ -8,3 +8,4 @@ pub mod Instructions
 pub mod Statements
 pub mod Functions
 pub mod Jumps
+pub mod Numbers
