@@ -16,7 +16,7 @@ use Rattle.asm_relax.specs.Layout.{laid_out, laid_by}
 use Rattle.asm_relax.specs.Settling.{LaidItem, LaidSections, planned, settled_sections, layout_of}
 use Rattle.cfi_directives.specs.declared.frames.Frame.{Frame}
 use Rattle.cfi_directives.specs.Procedures.{frames_of}
-use Rattle.eh_frame.specs.Additions.{section_names, AddsLittle, TablesAddLittle}
+use Rattle.eh_frame.specs.Additions.{AddsLittle, TablesAddLittle}
 use Rattle.eh_frame.specs.Pieces.{Tables, tables_of}
 use Rattle.eh_frame.specs.Placing.{placed}
 use Rattle.elf_object.specs.Limits.{NumbersFit}

@@ -90,7 +90,7 @@ symbols_framed before after map labelled grows stand gets =
     subst (StandUpTo last after) (sym gets.all)
     (All-append (λ (symbol : Symbol). MeaningStands after last symbol.meaning) map.symbols gets.labels
     (All-weaker (SymbolStands before last) (λ (symbol : Symbol). MeaningStands after last symbol.meaning)
-    (λ symbol was. meaning_grows before after last grows symbol.meaning was.0) map.symbols stand)
+    (λ symbol was. meaning_grows before after last grows symbol.meaning was.0) map.symbols stand.each)
     (All-weaker (LabelStands after) (λ (symbol : Symbol). MeaningStands after last symbol.meaning) (label_means after last) gets.labels gets.each))
 
 -- a label has no form

@@ -31,7 +31,7 @@ use Rattle.frame_laws.specs.TableReads.{TableReads, FrameTablesRead}
 use Rattle.asm_front.proofs.SettledObjects.{AreSettled}
 use Rattle.asm_functions.specs.FollowedSource.{FollowedSource, notes_of}
 use Rattle.asm_functions.specs.Standing.{StandsInOrder}
-use Rattle.synthesis_laws.specs.WrittenTables.{TablesCanBeWritten}
+use Rattle.synthesis_laws.specs.WrittenTables.{TablesAreOfItems, TablesCanBeWritten}
 use Rattle.asm_front.specs.Synthesis.{Synthesis, IsMadeAt}
 use Rattle.asm_front.specs.Ending.{Flags, unclosed, first_line, framed, framed_end, unless_open, finished, procedures_by, with_made, unless_fault, followed_end}
 use Rattle.asm_front.specs.declared.ending.NotedObject.{NotedObject}
@@ -48,6 +48,13 @@ use Rattle.asm_front.proofs.SmallSections.{sections_small}
 -- what is known of frame tables in objects, and of the procedures that statements place
 pub record FrameFacts : Type 0 where
   pub read : FrameTablesRead
+  pub ordered : (statements : List TokenStatement) (no_warn : Bool) (whole : Placed) → place_all statements (nothing_placed no_warn) ≡ Ok whole
+      → StandInOrder whole.sections whole.procedures
+
+-- what is known of the places of all that statements place
+pub record StandingFacts : Type 0 where
+  pub starts : (no_warn : Bool) → PlacesStand (nothing_placed no_warn)
+  pub places : (statements : List TokenStatement) (before placed : Placed) → place_all statements before ≡ Ok placed → PlacesStand before → PlacesStand placed
   pub ordered : (statements : List TokenStatement) (no_warn : Bool) (whole : Placed) → place_all statements (nothing_placed no_warn) ≡ Ok whole
       → StandInOrder whole.sections whole.procedures
 
@@ -82,10 +89,10 @@ frames_covered whole stands ordered closed = λ k default within. (
     })
 
 -- so do the procedures of an object, or the functions in place of them
-pub are_covered : JumpFacts → FrameFacts → TablesCanBeWritten → (flags : Flags) (handed : List TokenStatement) (f : FollowedSource) (made : NotedObject)
+pub are_covered : StandingFacts → TablesCanBeWritten → TablesAreOfItems → (flags : Flags) (handed : List TokenStatement) (f : FollowedSource) (made : NotedObject)
     → place_all handed (nothing_placed flags.no_warn) ≡ Ok f.placed → All (StandsInOrder f.placed.sections) f.functions → IsMadeAt flags.scfi f
     → followed_end flags f ≡ Ok made → AreCovered flags.scfi f.placed
-are_covered facts frames_facts written flags handed f made all ordered = by_synthesis flags.scfi
+are_covered facts written of_items flags handed f made all ordered = by_synthesis flags.scfi
   where
     by_synthesis : (scfi : Option Synthesis) → IsMadeAt scfi f
         → unless_fault scfi (notes_of f) (finished flags.fatal_warnings f.placed.sections f.placed.table (procedures_by scfi f.placed.procedures) (notes_of f)) ≡ Ok made
@@ -93,8 +100,8 @@ are_covered facts frames_facts written flags handed f made all ordered = by_synt
     by_synthesis None is ends =
         let closed = all_ended flags.fatal_warnings f.placed (notes_of f) made ends in
         subst (All (IsCovered f.placed.sections)) (sym closed)
-        (frames_covered f.placed (facts.places handed (nothing_placed flags.no_warn) f.placed all (facts.starts flags.no_warn)) (frames_facts.ordered handed flags.no_warn f.placed all) closed)
-    by_synthesis (Some (Ok frames)) is ends = subst (All (IsCovered f.placed.sections)) (sym (append-nil frames)) (functions_covered written f frames is ordered)
+        (frames_covered f.placed (facts.places handed (nothing_placed flags.no_warn) f.placed all (facts.starts flags.no_warn)) (facts.ordered handed flags.no_warn f.placed all) closed)
+    by_synthesis (Some (Ok frames)) is ends = subst (All (IsCovered f.placed.sections)) (sym (append-nil frames)) (functions_covered written of_items f frames is ordered)
     by_synthesis (Some (Err at)) is ends = absurd cc
 
 -- THE SYMBOLS
@@ -129,8 +136,8 @@ placed_ready table placing facts statements no_warn whole is =
       few = facts.few statements no_warn whole is;
       named = All-weaker (SymbolStands whole.sections last) (λ (symbol : Symbol). (at : SectionPlace) → symbol.name ≡ place_name at → IsLabelAt at symbol)
           (λ symbol both. place_label symbol symbol.meaning refl both.1)
-          whole.table.symbols.symbols stands.symbols;
-      stand = All-weaker (SymbolStands whole.sections last) (SymbolHolds whole.sections) (λ symbol both. means_hold whole.sections last symbol both.0) whole.table.symbols.symbols stands.symbols;
+          whole.table.symbols.symbols stands.symbols.each;
+      stand = All-weaker (SymbolStands whole.sections last) (SymbolHolds whole.sections) (λ symbol both. means_hold whole.sections last symbol both.0) whole.table.symbols.symbols stands.symbols.each;
     }
 
 -- THE TABLE

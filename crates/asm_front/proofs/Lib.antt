@@ -8,6 +8,7 @@ mod ToldFiles
 mod AnswerLemmas
 mod AnswerFacts
 mod WholeSources
+mod MadeObjects
 mod FittingObjects
 mod AnswersReadBack
 mod AnswersFit
@@ -26,7 +27,7 @@ mod PlacedFacts
 mod FramedSymbols
 mod SmallSections
 mod JumpsInObject
-mod OpsInItems
+mod RowCounts
 mod PlacesInOrder
 mod FrameAnswers
 mod OrderedStates

@@ -27,6 +27,7 @@ use Rattle.asm_place.specs.Sources.{place_all}
 use Rattle.asm_place.specs.Instructions.{behind_labels, instruction_written, next_item, next_offset, StandsAt}
 use Rattle.elf_object.specs.declared.faults.ObjectCause.{ObjectCause}
 use Rattle.elf_object.specs.Faults.{object_fault}
+use Rattle.elf_object.specs.Objects.{object_of}
 use Rattle.elf_object.specs.Image.{image_of}
 use Rattle.elf_file.specs.Places.{PieceAt}
 use Rattle.elf_object.specs.Places.{IsFiled, IsBetween}
@@ -93,16 +94,20 @@ warned_is : (place : Option Pos) (object made : List ℕ) → warned_end place o
 warned_is None object made e = cc
 warned_is (Some pos) object made e = absurd cc
 
-made_is : (fatal : Bool) (table : Table) (notes : List Noted) (fault : Option ObjectCause) (image made : List ℕ)
-    → made_end fatal table notes (unless fault image) ≡ Ok made → made ≡ image
-made_is fatal table notes None image made e = warned_is (first_warning fatal notes) image made e
-made_is fatal table notes (Some fault) image made e = absurd cc
+-- no warning refuses an object that is made
+made_is : (fatal : Bool) (table : Table) (notes : List Noted) (answer : Result (List ℕ) ObjectCause) (made : List ℕ) → made_end fatal table notes answer ≡ Ok made → answer ≡ Ok made
+made_is fatal table notes (Ok object) made e = ap Ok (sym (warned_is (first_warning fatal notes) object made e))
+made_is fatal table notes (Err cause) made e = absurd cc
+
+-- an object is the image of its layout
+image_is : (fault : Option ObjectCause) (image made : List ℕ) → unless fault image ≡ Ok made → made ≡ image
+image_is None image made e = cc
+image_is (Some fault) image made e = absurd cc
 
 -- the layout of an object
 laid_is : (fatal : Bool) (table : Table) (notes : List Noted) (answer : Result LaidSections LayoutFault) (made : List ℕ) → laid_end fatal table notes answer ≡ Ok made
-    → (laid : LaidSections) × (answer ≡ Ok laid) × (made ≡ image_of table.symbols laid)
-laid_is fatal table notes (Ok sections) made e =
-    (sections, refl, made_is fatal table notes (object_fault table.symbols sections) (image_of table.symbols sections) made e)
+    → (laid : LaidSections) × (answer ≡ Ok laid) × (object_of table.symbols laid ≡ Ok made)
+laid_is fatal table notes (Ok sections) made e = (sections, refl, made_is fatal table notes (object_of table.symbols sections) made e)
 laid_is fatal table notes (Err fault) made e = absurd cc
 
 noted_is : (notes : List Noted) (answer : Result (List ℕ) Ended) (made : NotedObject) → noted notes answer ≡ Ok made → answer ≡ Ok made.object
@@ -127,9 +132,10 @@ pub record IsFinished (whole : Placed) (object : List ℕ) : Type 0 where
   pub frames : framed whole ≡ Ok tables
   pub laid : LaidSections
   pub settles : layout_of tables.symbols tables.sections ≡ Ok laid
+  pub is_object : object_of tables.symbols laid ≡ Ok object
   pub image : object ≡ image_of tables.symbols laid
 
-finished_is : (fatal : Bool) (whole : Placed) (notes : List Noted) (made : NotedObject) → finished fatal whole.sections whole.table whole.procedures notes ≡ Ok made → IsFinished whole made.object
+pub finished_is : (fatal : Bool) (whole : Placed) (notes : List Noted) (made : NotedObject) → finished fatal whole.sections whole.table whole.procedures notes ≡ Ok made → IsFinished whole made.object
 unfolding finished
 finished_is fatal whole notes made e =
     let pos = first_line (frames_of whole.procedures) in
@@ -139,7 +145,14 @@ finished_is fatal whole notes made e =
     let answer = layout_of table.0.symbols table.0.sections in
     let full = with_map whole.table table.0.symbols in
     let laid = laid_is fatal full notes answer made.object (noted_is notes (laid_end fatal full notes answer) made table.2) in
-    record { tables = table.0; frames = table.1; laid = laid.0; settles = laid.1; image = laid.2 }
+    record {
+      tables = table.0;
+      frames = table.1;
+      laid = laid.0;
+      settles = laid.1;
+      is_object = laid.2;
+      image = image_is (object_fault table.0.symbols laid.0) (image_of table.0.symbols laid.0) made.object laid.2;
+    }
 
 -- the statements that are handed out are all placed, and what they place has this object, with these notes
 pub record Makes (flags : Flags) (handed : List TokenStatement) (made : NotedObject) : Type 0 where

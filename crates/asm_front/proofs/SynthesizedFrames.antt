@@ -26,13 +26,13 @@ use Rattle.scfi_pass.specs.declared.rows.StackRow.{StackRow}
 use Rattle.scfi_pass.specs.Changing.{told}
 use Rattle.scfi_pass.specs.Rows.{whole_row}
 use Rattle.scfi_pass.specs.Tables.{Analyzed, AreRowsFrom, ops_from, entry_row}
-use Rattle.synthesis_laws.specs.WrittenTables.{TablesCanBeWritten}
+use Rattle.synthesis_laws.specs.WrittenTables.{TablesAreOfItems, TablesCanBeWritten}
 use Rattle.asm_functions.specs.FollowedSource.{FollowedSource}
 use Rattle.asm_functions.specs.Following.{end_of}
 use Rattle.asm_functions.specs.Standing.{EndsBehind, StandsInOrder, item_places}
 use Rattle.asm_front.specs.Synthesis.{IsFrameOf, IsTable, IsSynthesis, frame_with, place_of, placed_ops, nodes_in}
 use Rattle.asm_front.proofs.Lists.{all_there}
-use Rattle.asm_front.proofs.OpsInItems.{rows_count, table_within}
+use Rattle.asm_front.proofs.RowCounts.{rows_count}
 use Rattle.asm_front.proofs.PlacesInOrder.{up_to_itself, up_to_later, up_to_inside, rising_falls, seen_places}
 
 -- PLACES IN ORDER
@@ -122,7 +122,7 @@ record StandsWhole (sections : List LooseSection) (g : Recorded CodeItem) (stop 
   end_bytes : stop.offset ≤ length held.bytes
   falls : NeverFall (g.start ∷ (map (λ item. item.place) g.items ++ stop ∷ []))
 
-module _ (written : TablesCanBeWritten) (symbols : SymbolMap) (sections : List LooseSection) where
+module _ (written : TablesCanBeWritten) (of_items : TablesAreOfItems) (symbols : SymbolMap) (sections : List LooseSection) where
   -- the places of instructions stand in the section
   ops_stand : (g : Recorded CodeItem) (held : LooseSection) → slice_get sections g.section ≡ Some held → All (λ (item : CodeItem). item.place.item ≤ length held.items) g.items
       → (ops : List ItemOp) → All (λ (op : ItemOp). op.item < length g.items) ops
@@ -141,7 +141,7 @@ module _ (written : TablesCanBeWritten) (symbols : SymbolMap) (sections : List L
       → IsCovered sections (frame_with (record g { stop = Some stop }) placed)
   table_covers g stop stands nodes placed is =
       let frame = frame_with (record g { stop = Some stop }) placed in
-      let low = table_within g.items nodes is.old is.new is.ops is.table in
+      let low = of_items g.items nodes is.old is.new is.ops is.table in
       let a = is.table.0 in
       let rows = is.table.2.1 in
       let places : map (λ (one : PlacedOp). one.place) placed ≡ places_of g.items is.ops = ap (λ (all : List PlacedOp). map (λ (one : PlacedOp). one.place) all) is.made ∙ placed_places g.items is.ops in
@@ -236,7 +236,7 @@ module _ (written : TablesCanBeWritten) (symbols : SymbolMap) (sections : List L
       (all_cover functions frames (All-tail (StandsInOrder sections) (mapped seen g) (all_seen functions) stand) are.1)
 
 -- the frames of all functions of a source do
-pub functions_covered : TablesCanBeWritten → (f : FollowedSource) (frames : List Frame) → IsSynthesis f (Ok frames) → All (StandsInOrder f.placed.sections) f.functions
+pub functions_covered : TablesCanBeWritten → TablesAreOfItems → (f : FollowedSource) (frames : List Frame) → IsSynthesis f (Ok frames) → All (StandsInOrder f.placed.sections) f.functions
     → All (IsCovered f.placed.sections) frames
-functions_covered written f frames is stand =
-    all_cover written f.placed.table.symbols f.placed.sections is.functions frames (subst (All (StandsInOrder f.placed.sections)) (sym is.seen) stand) is.comes
+functions_covered written of_items f frames is stand =
+    all_cover written of_items f.placed.table.symbols f.placed.sections is.functions frames (subst (All (StandsInOrder f.placed.sections)) (sym is.seen) stand) is.comes

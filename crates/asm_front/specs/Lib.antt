@@ -5,5 +5,6 @@ pub mod Ending
 pub mod Assembly
 pub mod Outcome
 pub mod ReadsBack
+pub mod Made
 pub mod Fitting
 pub mod Answering

@@ -11,6 +11,7 @@ ghost use Rattle.asm_front.specs.Ending.{Flags, followed_end};
 ghost use Rattle.asm_front.specs.declared.ending.NotedObject.{NotedObject};
 ghost use Rattle.asm_front.specs.Assembly.{assembled, assembly_of, expansion_of, handed_of, SourceIsMade};
 ghost use Rattle.asm_front.specs.Fitting.{ObjectIsReadable, StepFits};
+ghost use Rattle.asm_front.specs.Made.{IsMadeOf};
 ghost use Rattle.asm_front.specs.ReadsBack.{ReadsBack};
 
 use crate::placers::SourcePlacer;
@@ -30,7 +31,7 @@ use elf_object::{bytes_stand, items_stand, values_stand};
 use frame_laws::frame_tables_read;
 use item_bytes::jump_reads_back;
 use object_laws::{objects_fit, source_sections_found};
-use synthesis_laws::{answers_are_one, synthesis_sees, tables_can_be_written};
+use synthesis_laws::{answers_are_one, synthesis_sees, tables_are_of_items, tables_can_be_written};
 use x86_encode::{encodings_are_codes, fields_stand_apart};
 use x86_lookup::bare_codes_read;
 use x86_table::read_one_way;
@@ -56,6 +57,26 @@ pub fn synthesis_is_one()
     synthesis_sees();
 }
 
+/// The statements of a source that has an object are all placed and followed, and the object is that of the layout of what they
+/// place with its frame table, in which all that was placed stands as it was.
+pub fn objects_are_made()
+    ensures { (flags : Flags) (contents : Contents) (name source : List ℕ) (made : NotedObject)
+        (files : List (List ℕ)) → assembly_of flags contents name source ≡ assembled made files
+        → SourceIsMade flags contents name source
+        → IsMadeOf flags contents name source made.object }
+{
+    handed_statements_are_placed::<SourcePlacer>();
+    following_is_placing();
+    functions_stand_in_order();
+    tables_can_be_written();
+    tables_are_of_items();
+    placing_within();
+    places_stand();
+    procedures_stand_in_order();
+    pieces_are_found();
+    labels_stand();
+}
+
 /// The object is that of a layout of all that the expansion of a source hands out. Each instruction of it stands in the object,
 /// where the statements before it end, as bytes that read as it, with the values that its fields have there, and as no other
 /// instruction. A direct jump, short or near, reads as the jump to its target: a label stands as far from the place behind the
@@ -72,6 +93,7 @@ pub fn written_reads_back()
     following_is_placing();
     functions_stand_in_order();
     tables_can_be_written();
+    tables_are_of_items();
     placing_in_order();
     layouts_keep_sections();
     settled_is_placed();

@@ -14,6 +14,6 @@ pub use answers::{AsmFault, Assembled, Options};
 pub use assembling::assemble;
 pub use ending::NotedObject;
 pub use laws::{
-    synthesis_is_one, the_end_is_no_reading, told_files_are_known, written_is_readable,
-    written_reads_back,
+    objects_are_made, synthesis_is_one, the_end_is_no_reading, told_files_are_known,
+    written_is_readable, written_reads_back,
 };

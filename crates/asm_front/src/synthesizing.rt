@@ -21,6 +21,7 @@ use scfi_pass::{ItemFault, ItemOp, synthesize};
 use std::alloc::Global;
 use std::marker::Brand;
 use std::sync::ledger::{Blank, Ledger};
+use synthesis_laws::tables_are_of_items;
 
 /// A fault of the synthesis of a frame table, and its place.
 #[derive(Clone, Copy, Drop)]
@@ -110,6 +111,7 @@ fn table_of<L: Ledger>(
         (nodes_of forms.now.symbols.now function.now.section forms.now.fields.now
         function.now.items.now) result }
 {
+    tables_are_of_items();
     let mut steps = Steps::<L>::new(blank);
     match synthesize(alloc, function, forms, &mut steps) {
         Ok(ops) => Ok(placed_ops(alloc, function.items, ops.as_slice())?),

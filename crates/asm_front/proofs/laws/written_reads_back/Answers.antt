@@ -1,6 +1,6 @@
 use Rattle.asm_front.proofs.CodesInObject.{reads_back}
 use Rattle.asm_front.proofs.FramedSections.{TableFacts}
-use Rattle.asm_front.proofs.FramesInObject.{FrameFacts, are_covered}
+use Rattle.asm_front.proofs.FramesInObject.{FrameFacts, StandingFacts, are_covered}
 use Rattle.asm_front.proofs.HandedStatements.{handed_comes, handed_placed, made_at_end, made_of}
 use Rattle.asm_front.specs.Assembly.{handed_of, is_asked}
 use Rattle.asm_front.proofs.JumpsInObject.{JumpFacts}
@@ -47,7 +47,8 @@ returns c flags contents name source made files is so =
     let places = handed_placed c.following_is_placing.ensures.placed flags contents name source f end.follows in
     let ordered = c.functions_stand_in_order.ensures.so_far _ flags.no_warn (is_asked flags) f end.follows in
     let handed = handed_of flags contents name source in
-    let covered = are_covered jumps frames c.tables_can_be_written.ensures flags handed f made places ordered (made_at_end flags contents name source made files end.names f is so end.comes) end.ends in
+    let standing : StandingFacts = record { starts = jumps.starts; places = jumps.places; ordered = frames.ordered } in
+    let covered = are_covered standing c.tables_can_be_written.ensures c.tables_are_of_items.ensures flags handed f made places ordered (made_at_end flags contents name source made files end.names f is so end.comes) end.ends in
     reads_back settled c.read_one_way.ensures c.bare_codes_read.ensures.read c.encodings_are_codes.ensures.fields
     c.fields_stand_apart.ensures.places c.fields_stand_apart.ensures.values table placing jumps frames flags handed made
     (made_of flags handed f made places end.ends) covered
