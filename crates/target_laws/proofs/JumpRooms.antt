@@ -1,5 +1,5 @@
 -- The items of direct jumps have room for what their fields hold.
-use Rattle.std.proofs.Common.{◌≡◌, ℕ, ◌+◌, Bool, true, false, cond, List, [], ◌∷◌, ◌++◌, All, Option, Some, None, length, refl, sym, ap, ◌∙◌, subst, arith}
+use Rattle.std.proofs.Common.{◌≡◌, ℕ, ◌+◌, ◌-◌, ◌^◌, ◌<◌, Bool, true, false, cond, List, [], ◌∷◌, ◌++◌, All, Option, Some, None, length, refl, sym, ap, ◌∙◌, subst, arith}
 use Rattle.std.specs.Prelude.{◌==◌, slice_get, option_map}
 use Rattle.std.specs.Option.{option_map_or}
 use Rattle.std.proofs.lemmas.List.{length-map}
@@ -7,6 +7,7 @@ use Rattle.std.proofs.lemmas.Option.{none-some, same_Some, slice_get-map, slice_
 use Rattle.asm_base.specs.Tokens.{SpelledToken}
 use Rattle.asm_base.specs.declared.places.SectionPlace.{SectionPlace}
 use Rattle.asm_base.specs.declared.positions.Pos.{Pos}
+use Rattle.asm_expr.specs.Coefficients.{coefficient}
 use Rattle.asm_expr.specs.Forms.{Form}
 use Rattle.asm_symbols.specs.declared.entries.Meaning.{Meaning}
 use Rattle.asm_symbols.specs.declared.entries.Meaning.TheVariants as meaning
@@ -15,7 +16,7 @@ use Rattle.asm_symbols.specs.SymbolMap.{SymbolMap}
 use Rattle.asm_frags.specs.declared.fields.Field.{Field}
 use Rattle.asm_frags.specs.declared.fields.FieldSize.TheVariants.{Four}
 use Rattle.asm_frags.specs.Addresses.{item_laid_at}
-use Rattle.asm_frags.specs.Fields.{growth_role, own_place}
+use Rattle.asm_frags.specs.Fields.{growth_role, is_distance, own_place}
 use Rattle.asm_frags.specs.SectionOf.{SectionOf}
 use Rattle.asm_frags.specs.Substituting.{substituted_field, laid_item, laid_section}
 use Rattle.asm_frags.specs.Writing.{LooseItem, LooseSection, new_item, item_behind, with_growing}
@@ -25,7 +26,7 @@ use Rattle.item_contents.specs.declared.contents.Content.TheVariants.{Growing}
 use Rattle.item_contents.specs.declared.kinds.Growth.TheVariants.{Jump}
 use Rattle.row_distances.specs.Places.{meant_place, place_of}
 use Rattle.item_rows.specs.ItemRows.{own_of}
-use Rattle.asm_relax.specs.ItemValues.{StandsIn, IsInItem}
+use Rattle.asm_relax.specs.ItemValues.{StandsIn, NamesOwnPlace, IsInItem}
 use Rattle.asm_relax.specs.KeptSections.{kept_section, kept_items, LayoutsKeepSections}
 use Rattle.asm_relax.specs.SettledRoom.{HasRoomFor, SettledHaveRoom}
 use Rattle.asm_relax.specs.Settling.{LaidItem, LaidSections, planned, settled_sections}
@@ -40,7 +41,7 @@ use Rattle.place_laws.specs.Low.{LayoutsAreLow}
 use Rattle.code_laws.specs.Sections.{IsLoadedLater}
 use Rattle.target_laws.specs.Targets.{NamesNoField}
 use Rattle.target_laws.specs.Jumps.{jump_length}
-use Rattle.target_laws.specs.Rooms.{StandIn, JumpsHaveRoom}
+use Rattle.target_laws.specs.Rooms.{StandIn, JumpFieldsStand, JumpsHaveRoom}
 use Rattle.target_laws.proofs.Elements.{get_set, All-there, get_first, get_last}
 use Rattle.target_laws.proofs.OwnPlaces.{names_own_place, constant_small}
 
@@ -95,6 +96,17 @@ module _ (symbols : SymbolMap) (sections : List LooseSection) (last : ℕ) (stan
     places_stand index place is = by_test (index == own_place) index place is
 
 -- THE JUMP
+
+-- the field of a jump stands in its item
+pub jump_fields_stand : JumpFieldsStand
+jump_fields_stand symbols sections field stand there is = record {
+  in_item = is.in_item;
+  behind = is.behind;
+  own = subst (λ kind. NamesOwnPlace (is_distance kind) (linked symbols field.form)) (sym is.holds.kind)
+      (ap (λ (f : Form). coefficient (linked symbols f) own_place) is.holds.form ∙ names_own_place symbols stand.expandable is.holds.target is.holds.plain);
+  constant = subst (λ (f : Form). (linked symbols f).constant < 2 ^ 64) (sym is.holds.form) (constant_small symbols stand.expandable is.holds.target is.holds.plain);
+  places = places_stand symbols sections stand.last stand.stand (substituted_field (linked symbols) field) there;
+}
 
 module _ (facts : Facts) (symbols : SymbolMap) (laid : LaidSections) (pos : Pos) (tokens : List SpelledToken) (text : InsnText) (condition : Option Condition)
     (before placed : Placed) (code : List ℕ) (put : IsJumpPut pos tokens text condition before placed) (later : IsLoadedLater symbols laid before.current placed.sections code)
@@ -191,13 +203,9 @@ module _ (facts : Facts) (symbols : SymbolMap) (laid : LaidSections) (pos : Pos)
       record { section = whole; there = more.there; enough = omega (arith, some) }
 
   in_item : IsInItem symbols (planned symbols later.later) own
-  in_item = record {
-    in_item = refl;
-    behind = refl;
-    own = names_own_place symbols stand.expandable put.jump.forms.displacement plain;
-    constant = constant_small symbols stand.expandable put.jump.forms.displacement plain;
-    places = places_stand symbols later.later stand.last stand.stand own own_item;
-  }
+  in_item =
+      jump_fields_stand symbols later.later field_put stand own_item
+      (record { in_item = refl; behind = refl; holds = record { kind = refl; target = put.jump.forms.displacement; plain = plain; form = refl } })
 
   abbrev Room : LaidSections → ℕ → Field → Type 0
   Room all size field = HasRoomFor symbols all (Jump condition) size field
