@@ -22,7 +22,7 @@ use Rattle.asm_symbols.specs.SymbolMap.{SymbolMap, names, index_of, changed, wit
 use Rattle.asm_symbols.specs.Assigning.{with_form}
 use Rattle.asm_symbols.specs.Defining.{defined}
 use Rattle.asm_symbols.specs.Interning.{number_of}
-use Rattle.asm_symbols.specs.LeadsBack.{leads_back, assigned}
+use Rattle.asm_symbols.specs.LeadsBack.{assigned}
 use Rattle.asm_uses.specs.Places.{here_name, uses_place}
 use Rattle.asm_uses.specs.Tables.{Table, changed_by}
 use Rattle.asm_values.specs.Assignments.{assign_words, place_set, place_assignment}
@@ -101,8 +101,7 @@ tree_read tokens =
 
 -- ASSIGNMENTS
 
--- the form of the expression of an assignment comes: it does not lead back to its symbol, and the place of the statement is a symbol in the end, if the form
--- keeps it
+-- the form of the expression of an assignment comes, and the place of the statement is a symbol in the end, if the form keeps it
 pub record IsAssigned (tokens : List SpelledToken) (before after : Placed) : Type 0 where
   pub there : Placed
   pub first : Stays before there
@@ -112,7 +111,6 @@ pub record IsAssigned (tokens : List SpelledToken) (before after : Placed) : Typ
   pub at : ℕ
   pub form : Form
   pub form_is : form_in (known_here (with_words pos words there)) words.tree ≡ Ok form
-  pub apart : leads_back (with_words pos words there).table.symbols.symbols form at ≡ false
   pub later : Keeps (with_form (with_words pos words there).table.symbols at form) after.table.symbols
   pub placed : uses_place (known_here (with_words pos words there)).place form ≡ true → (known_here (with_words pos words there)).place < length after.table.symbols.symbols
 
@@ -158,11 +156,10 @@ words_assigned pos once words tokens read placed =
           at = at;
           form = form;
           form_is = form_is;
-          apart = taken.apart;
-          later = subst (λ (map : SymbolMap). Keeps map table.symbols) taken.is closes.kept;
+          later = subst (λ (map : SymbolMap). Keeps map table.symbols) taken closes.kept;
           placed = λ keeps.
               let number : number_of next.symbols (here_name (here named)) ≡ number_of named.table.symbols (here_name (here named)) =
-              ap (λ (map : SymbolMap). number_of map (here_name (here named))) taken.is ∙ number_same named.table.symbols at form (here_name (here named)) in
+              ap (λ (map : SymbolMap). number_of map (here_name (here named))) taken ∙ number_same named.table.symbols at form (here_name (here named)) in
               subst (λ (n : ℕ). n < length table.symbols.symbols) number (closes.placed keeps);
         }
 
@@ -195,7 +192,6 @@ more_tokens some all among before after (inr comes) = inr (record {
   at = comes.at;
   form = comes.form;
   form_is = comes.form_is;
-  apart = comes.apart;
   later = comes.later;
   placed = comes.placed;
 })
@@ -212,7 +208,6 @@ behind_names tokens before between after first (inr comes) = inr (record {
   at = comes.at;
   form = comes.form;
   form_is = comes.form_is;
-  apart = comes.apart;
   later = comes.later;
   placed = comes.placed;
 })

@@ -8,7 +8,6 @@ mod Naming
 mod Linear
 mod There
 mod Below
-mod Forward
 mod Instructions
 mod Framing
 mod Fitting

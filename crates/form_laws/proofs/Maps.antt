@@ -177,19 +177,18 @@ space_keeps size map at =
 
 -- A FORM COMES
 
--- the map is the one with this form, which does not lead back
-pub record TakesForm (map : SymbolMap) (at : ℕ) (form : Form) (after : SymbolMap) : Type 0 where
-  pub is : after ≡ with_form map at form
-  pub apart : leads_back map.symbols form at ≡ false
+-- the map is the one with this form
+abbrev pub TakesForm : SymbolMap → ℕ → Form → SymbolMap → Type 0
+TakesForm map at form after = after ≡ with_form map at form
 
 pub assigned_takes : (map : SymbolMap) (at : ℕ) (form : Form) (once : Bool) → Fine (TakesForm map at form) (assigned map at form once)
 unfolding assigned
-assigned_takes map at form once = by (form_fault_at map at once) (leads_back map.symbols form at) refl
+assigned_takes map at form once = by (form_fault_at map at once) (leads_back map.symbols form at)
   where
-    by : (fault : Option SymCause) (back : Bool) → leads_back map.symbols form at ≡ back → Fine (TakesForm map at form) (assigned_by fault back (with_form map at form))
-    by (Some fault) back is = refused _
-    by None true is = refused _
-    by None false is = made _ (record { is = refl; apart = is })
+    by : (fault : Option SymCause) (back : Bool) → Fine (TakesForm map at form) (assigned_by fault back (with_form map at form))
+    by (Some fault) back = refused _
+    by None true = refused _
+    by None false = made _ refl
 
 -- a form of the map with it is this one, or was there
 pub form_written : (form : Form) (symbols : List Symbol) (at index : ℕ) (found : Form) → form_at (changed (with_meaning (meaning.Assigned form)) symbols at) index ≡ Some found

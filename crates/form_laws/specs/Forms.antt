@@ -2,7 +2,6 @@
 use Rattle.std.specs.Prelude.{◌≡◌, ℕ, Bool, List, ◌∷◌, Some, Ok, length}
 use Rattle.asm_expr.specs.Forms.{Form}
 use Rattle.asm_lines.specs.NextStatements.{TokenStatement}
-use Rattle.asm_symbols.specs.Assigning.{NoFormLeadsBack}
 use Rattle.x86_insn.specs.declared.amounts.FieldKind.{FieldKind}
 use Rattle.att_insns.specs.InsnTexts.{InsnText}
 use Rattle.asm_values.specs.State.{Placed, nothing_placed}
@@ -20,17 +19,6 @@ abbrev pub FormsStayThere : Type 0
 FormsStayThere = (statements : List TokenStatement) (before placed : Placed)
     → place_all statements before ≡ Ok placed → FormsAreThere before.table.symbols
     → FormsAreThere placed.table.symbols
-
--- at the beginning no form leads back to its own symbol
-abbrev pub FormsBeginForward : Type 0
-FormsBeginForward = (no_warn : Bool)
-    → NoFormLeadsBack (nothing_placed no_warn).table.symbols.symbols
-
--- and whatever statements are placed, none does
-abbrev pub FormsStayForward : Type 0
-FormsStayForward = (statements : List TokenStatement) (before placed : Placed)
-    → place_all statements before ≡ Ok placed → NoFormLeadsBack before.table.symbols.symbols
-    → NoFormLeadsBack placed.table.symbols.symbols
 
 -- the forms of the values of an instruction name none but these first symbols
 pub record AreValuesBelow (count : ℕ) (forms : ValueForms) : Type 0 where

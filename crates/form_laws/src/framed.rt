@@ -2,7 +2,8 @@
 
 ghost use Rattle.form_laws.specs.Framed.{TablesAddLabels, TablesKeepTargets};
 
-use crate::forms::{forms_lead_forward, forms_name_symbols};
+use crate::forms::forms_name_symbols;
+use asm_place::places_stand;
 use eh_frame::places_are_named;
 
 /// A frame table adds labels alone to the symbols of a source, behind them: so targets and nodes by
@@ -13,5 +14,5 @@ pub fn tables_add_labels()
 {
     places_are_named();
     forms_name_symbols();
-    forms_lead_forward();
+    places_stand();
 }
