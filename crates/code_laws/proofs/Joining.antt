@@ -73,9 +73,9 @@ get_some [] i few = absurd (omega (arith, few))
 get_some (x ∷ xs) zero few = (x, refl)
 get_some (x ∷ xs) (suc i) few = get_some xs i (omega (arith, few))
 
-module _ (facts : Facts) (symbols : SymbolMap) (laid : LaidSections) (statements : List TokenStatement) (no_warn asked : Bool) (whole : FollowedSource) (a : Analyzed) (number : ℕ)
+module _ (facts : Facts) (traced symbols : SymbolMap) (laid : LaidSections) (statements : List TokenStatement) (no_warn asked : Bool) (whole : FollowedSource) (a : Analyzed) (number : ℕ)
     (fields : List Field) (from stop : Place) (code : List ℕ) (all : follow_all statements (nothing_followed no_warn asked) ≡ Ok whole)
-    (joined : AreJoined statements (nothing_followed no_warn asked) number (map seen a.items) from stop) (nodes : a.nodes ≡ nodes_of symbols number fields a.items)
+    (joined : AreJoined statements (nothing_followed no_warn asked) number (map seen a.items) from stop) (nodes : a.nodes ≡ nodes_of traced number fields a.items)
     (l : IsLoadedLater symbols laid number whole.placed.sections code) (numbered : InsnsAreNumbered statements (nothing_followed no_warn asked))
     (jump : JumpsAreLaid laid number statements (nothing_followed no_warn asked) a (starts_in laid number a.items stop) code) where
   abbrev first : FollowedSource
@@ -85,7 +85,7 @@ module _ (facts : Facts) (symbols : SymbolMap) (laid : LaidSections) (statements
   starts = starts_in laid number a.items stop
 
   abbrev own_node : CodeItem → Node
-  own_node item = node_of symbols number fields a.items item
+  own_node item = node_of traced number fields a.items item
 
   node_there : (i : ℕ) (item : CodeItem) → slice_get a.items i ≡ Some item → slice_get a.nodes i ≡ Some (own_node item)
   unfolding nodes_of
@@ -115,7 +115,7 @@ module _ (facts : Facts) (symbols : SymbolMap) (laid : LaidSections) (statements
         loaded = l.loaded;
       } in
       let got =
-      facts.laid symbols laid (back s) labels after number code item (own_node item) (item_target symbols number fields a.items item) starts is.bare is.placed is.within loaded
+      facts.laid symbols laid (back s) labels after number code item (own_node item) (item_target traced number fields a.items item) starts is.bare is.placed is.within loaded
       put.put refl none (λ insn view. numbered put.earlier s put.later put.before labels insn put.all put.before_is put.labels_are view) in
       let from_is : place_in laid number labels.sections ≡ laid_place laid number from =
       facts.ends laid number labels.sections ∙ ap (λ (sections : List LooseSection). laid_place laid number (end_of sections number)) is.same
@@ -163,5 +163,5 @@ module _ (facts : Facts) (symbols : SymbolMap) (laid : LaidSections) (statements
       )
 
 pub functions_are_laid : Facts → FunctionsAreLaid
-functions_are_laid facts symbols laid statements no_warn asked whole a number fields from stop code all joined nodes l numbered jump =
-    laid_all facts symbols laid statements no_warn asked whole a number fields from stop code all joined nodes l numbered jump
+functions_are_laid facts traced symbols laid statements no_warn asked whole a number fields from stop code all joined nodes l numbered jump =
+    laid_all facts traced symbols laid statements no_warn asked whole a number fields from stop code all joined nodes l numbered jump

@@ -97,14 +97,15 @@ JumpsAreLaid laid number statements first a starts code = (i : ℕ) (item : Code
     → (kind : Kind) × IsLaidAt laid number starts code item node from to kind
 
 -- a function whose items are joined in a section that is loaded lies in the bytes of that section,
--- if its direct jumps do
+-- if its direct jumps do. Its graph may be by other symbols than the layout: which these are matters
+-- to direct jumps alone
 abbrev pub FunctionsAreLaid : Type 0
-FunctionsAreLaid = (symbols : SymbolMap) (laid : LaidSections) (statements : List TokenStatement)
-    (no_warn asked : Bool) (whole : FollowedSource) (a : Analyzed) (number : ℕ)
-    (fields : List Field) (from stop : Place) (code : List ℕ)
+FunctionsAreLaid = (traced symbols : SymbolMap) (laid : LaidSections)
+    (statements : List TokenStatement) (no_warn asked : Bool) (whole : FollowedSource)
+    (a : Analyzed) (number : ℕ) (fields : List Field) (from stop : Place) (code : List ℕ)
     → follow_all statements (nothing_followed no_warn asked) ≡ Ok whole
     → AreJoined statements (nothing_followed no_warn asked) number (map seen a.items) from stop
-    → a.nodes ≡ nodes_of symbols number fields a.items
+    → a.nodes ≡ nodes_of traced number fields a.items
     → IsLoadedLater symbols laid number whole.placed.sections code
     → InsnsAreNumbered statements (nothing_followed no_warn asked)
     → JumpsAreLaid laid number statements (nothing_followed no_warn asked) a
