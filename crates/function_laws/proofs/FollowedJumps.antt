@@ -1,5 +1,5 @@
 -- The direct jumps of the functions of a source are laid as their items.
-use Rattle.std.proofs.Common.{◌≡◌, ℕ, ◌+◌, ◌≤◌, ◌^◌, Bool, List, length, map, Some, Ok, refl, sym, ap, subst, ◌∙◌}
+use Rattle.std.proofs.Common.{◌≡◌, ℕ, ◌+◌, ◌≤◌, ◌^◌, Bool, List, [], ◌∷◌, length, map, Some, Ok, refl, sym, ap, subst, ◌∙◌}
 use Rattle.std.specs.Prelude.{option_map, slice_get}
 use Rattle.std.proofs.lemmas.Option.{same_Some, slice_get-map}
 use Rattle.asm_base.specs.declared.places.Place.{Place}
@@ -11,17 +11,19 @@ use Rattle.asm_relax.specs.Settling.{LaidSections}
 use Rattle.insn_effects.specs.Flows.{jumps}
 use Rattle.insn_effects.specs.Followed.{flow_by}
 use Rattle.asm_values.specs.State.{Placed, nothing_placed}
-use Rattle.asm_place.specs.Bodies.{back}
+use Rattle.asm_place.specs.Bodies.{front, back}
 use Rattle.asm_place.specs.Sources.{place_all}
 use Rattle.code_functions.specs.declared.items.CodeItem.{CodeItem}
 use Rattle.code_functions.specs.Recorded.{Recorded}
 use Rattle.code_functions.specs.Seen.{seen, mapped}
+use Rattle.flow_graph.specs.AddedLabels.{FormsAreThere}
 use Rattle.flow_graph.specs.declared.nodes.Node.{Node}
 use Rattle.flow_graph.specs.Nodes.{node_of, nodes_of}
 use Rattle.asm_functions.specs.Following.{end_of}
 use Rattle.asm_functions.specs.FollowedSource.{FollowedSource, nothing_followed, follow_all, functions_at_end, placed_part}
 use Rattle.asm_functions.specs.Joined.{IsPutBy}
 use Rattle.scfi_pass.specs.Tables.{Analyzed}
+use Rattle.form_laws.specs.Forms.{FormsBeginThere, FormsStayThere}
 use Rattle.scfi_laws.specs.Laid.{Kind, size, ReadsItem}
 use Rattle.place_laws.specs.Ends.{place_in}
 use Rattle.code_laws.specs.Sections.{IsLoadedLater, IsLaidBetween}
@@ -32,6 +34,7 @@ use Rattle.function_laws.specs.Tabled.{starts_of, fields_of, IsResolved}
 use Rattle.function_laws.specs.Addresses.{StartsAreAddresses}
 use Rattle.function_laws.specs.Jumping.{FunctionJumpsAreLaid}
 use Rattle.function_laws.proofs.JumpPuts.{Facts as PutFacts, statement_laid}
+use Rattle.function_laws.proofs.Rising.{one_placed}
 
 -- what is known of sources, and of the statements that put jumps
 pub record Facts : Type 0 where
@@ -43,13 +46,15 @@ pub record Facts : Type 0 where
   pub placed : ItemsArePlaced
   pub ends : EndsArePlaces
   pub written : JumpsAreWritten
+  pub forms_begin : FormsBeginThere
+  pub forms_stay : FormsStayThere
   pub puts : PutFacts
 
 module _ (facts : Facts) (statements : List TokenStatement) (no_warn asked : Bool) (whole : FollowedSource) (number : ℕ) (symbols : SymbolMap) (laid : LaidSections) (code : List ℕ)
     (f : Recorded CodeItem) (a : Analyzed) (is : follow_all statements (nothing_followed no_warn asked) ≡ Ok whole)
     (there : slice_get (functions_at_end whole) number ≡ Some (mapped seen f)) (l : IsLoadedLater symbols laid f.section whole.placed.sections code)
-    (resolved : IsResolved symbols l.later laid) (same_items : a.items ≡ f.items)
-    (same_nodes : a.nodes ≡ nodes_of symbols f.section (fields_of whole.placed.sections f.section) a.items) where
+    (resolved : IsResolved whole.placed.table.symbols symbols l.later laid) (same_items : a.items ≡ f.items)
+    (same_nodes : a.nodes ≡ nodes_of whole.placed.table.symbols f.section (fields_of whole.placed.sections f.section) a.items) where
   abbrev first : FollowedSource
   first = nothing_followed no_warn asked
 
@@ -58,6 +63,9 @@ module _ (facts : Facts) (statements : List TokenStatement) (no_warn asked : Boo
 
   abbrev fields : List Field
   fields = fields_of whole.placed.sections f.section
+
+  abbrev source : SymbolMap
+  source = whole.placed.table.symbols
 
   few : length whole.placed.table.symbols.symbols ≤ 2 ^ 24
   few = facts.few (map (placed_part asked) statements) no_warn whole.placed (facts.following statements first whole is)
@@ -68,19 +76,19 @@ module _ (facts : Facts) (statements : List TokenStatement) (no_warn asked : Boo
 
   module _ (i : ℕ) (item : CodeItem) (node : Node) (falls : Bool) (from to : Place) (item_there : slice_get a.items i ≡ Some item) (node_there : slice_get a.nodes i ≡ Some node)
       (goes : flow_by item.effect.role ≡ jumps falls) (put : IsPutBy statements first f.section (seen item) from to) where
-    node_is : node ≡ node_of symbols f.section fields a.items item
+    node_is : node ≡ node_of source f.section fields a.items item
     unfolding nodes_of
     node_is =
-        let own = node_of symbols f.section fields a.items in
+        let own = node_of source f.section fields a.items in
         same_Some node (own item)
         (sym node_there ∙ ap (λ (nodes : List Node). slice_get nodes i) same_nodes ∙ slice_get-map own a.items i ∙ ap (option_map own) item_there)
 
     -- what is so of the section of this number
     record IsAt (n : ℕ) : Type 0 where
       loaded : IsLoadedLater symbols laid n whole.placed.sections code
-      known : IsResolved symbols loaded.later laid
+      known : IsResolved source symbols loaded.later laid
       begins : AreStarts laid n a.items starts
-      own_node : node ≡ node_of symbols n fields a.items item
+      own_node : node ≡ node_of source n fields a.items item
       own_fields : fields ≡ fields_of whole.placed.sections n
 
     at_own : IsAt f.section
@@ -95,6 +103,13 @@ module _ (facts : Facts) (statements : List TokenStatement) (no_warn asked : Boo
     abbrev after : Placed
     after = put.after.placed
 
+    -- behind the labels the forms of assigned symbols name symbols that are there
+    forms_there : FormsAreThere labels.table.symbols
+    forms_there =
+        let before = put.before.placed in
+        facts.forms_stay (front put.statement ∷ []) before labels (one_placed (front put.statement) before labels put.labels_are)
+        (facts.forms_stay (map (placed_part asked) put.earlier) (nothing_placed no_warn) before (facts.following put.earlier first put.before put.before_is) (facts.forms_begin no_warn))
+
     written : IsJumpWritten (back put.statement) labels after f.section item
     written = facts.written (back put.statement) labels after f.section item falls behind.bare behind.placed put.put goes
 
@@ -106,7 +121,7 @@ module _ (facts : Facts) (statements : List TokenStatement) (no_warn asked : Boo
     laid_current =
         let at = subst IsAt (sym written.current) at_own in
         statement_laid facts.puts symbols laid (back put.statement) behind.later labels after whole.placed code fields a.items item node starts falls f.section
-        behind.bare behind.placed behind.tokens behind.rest behind.within behind.stand behind.grows few at.loaded at.known at.begins at.own_node at.own_fields written goes
+        behind.bare behind.placed behind.tokens behind.rest behind.within behind.stand behind.grows few at.loaded at.known forms_there at.begins at.own_node at.own_fields written goes
 
     from_is : place_in laid f.section labels.sections ≡ laid_place laid f.section from
     from_is =

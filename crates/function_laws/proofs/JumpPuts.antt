@@ -9,6 +9,7 @@ use Rattle.asm_base.specs.Tokens.{SpelledToken}
 use Rattle.asm_base.specs.declared.positions.Pos.{Pos}
 use Rattle.asm_expr.specs.declared.forms.Term.{Term}
 use Rattle.asm_expr.specs.Coefficients.{is_among}
+use Rattle.asm_expr.specs.Forms.{Form}
 use Rattle.asm_lines.specs.NextStatements.{TokenStatement}
 use Rattle.asm_symbols.specs.SymbolMap.{SymbolMap}
 use Rattle.asm_frags.specs.declared.fields.Field.{Field}
@@ -43,9 +44,11 @@ use Rattle.asm_place.specs.Sources.{pos_at, place, place_all}
 use Rattle.asm_place.specs.SymbolPlaces.{AreUpTo, PlacesStand}
 use Rattle.code_functions.specs.declared.items.CodeItem.{CodeItem}
 use Rattle.code_functions.specs.Seen.{target_field}
+use Rattle.flow_graph.specs.AddedLabels.{AreBelow, AreBelowOrOwn, FormsAreThere, FieldIsThere, NodesStay}
 use Rattle.flow_graph.specs.declared.nodes.Node.{Node}
 use Rattle.flow_graph.specs.Nodes.{node_by, node_of, item_target}
 use Rattle.asm_functions.specs.Following.{fields_in}
+use Rattle.form_laws.specs.Forms.{ValuesAreThere, HeldFormsAreThere}
 use Rattle.scfi_laws.specs.Laid.{Kind, size}
 use Rattle.item_readings.specs.Items.{IsItemOf}
 use Rattle.place_laws.specs.Ends.{place_in}
@@ -81,6 +84,9 @@ pub record Facts : Type 0 where
   pub read_branch : BranchesAreRead
   pub room : JumpsHaveRoom
   pub said : BranchesAreSaid
+  pub values : ValuesAreThere
+  pub held : HeldFormsAreThere
+  pub stay : NodesStay
 
 -- TOKENS AND TERMS
 
@@ -124,8 +130,8 @@ module _ (facts : Facts) (symbols : SymbolMap) (laid : LaidSections) (s : TokenS
     (fields : List Field) (items : List CodeItem) (item : CodeItem) (node : Node) (starts : ℕ → ℕ) (falls : Bool) (number : ℕ)
     (no_label : begins_with_label s.tokens ≡ false) (is : place s before ≡ Ok placed) (tokens_are : place_tokens (pos_at s.file s.line) s.tokens before ≡ Ok placed)
     (rest : place_all later placed ≡ Ok whole) (within : AreWithin before.sections) (stand : PlacesStand before) (grows : Grows placed.sections whole.sections)
-    (few : length whole.table.symbols.symbols ≤ 2 ^ 24) (l : IsLoadedLater symbols laid before.current whole.sections code) (resolved : IsResolved symbols l.later laid)
-    (begin : AreStarts laid before.current items starts) (node_is : node ≡ node_of symbols before.current fields items item)
+    (few : length whole.table.symbols.symbols ≤ 2 ^ 24) (l : IsLoadedLater symbols laid before.current whole.sections code) (resolved : IsResolved whole.table.symbols symbols l.later laid)
+    (there : FormsAreThere before.table.symbols) (begin : AreStarts laid before.current items starts) (node_is : node ≡ node_of whole.table.symbols before.current fields items item)
     (fields_are : fields ≡ fields_of whole.sections before.current) (w : IsJumpWritten s before placed number item) (goes : flow_by item.effect.role ≡ jumps falls) where
   abbrev pos : Pos
   pos = pos_at s.file s.line
@@ -163,6 +169,21 @@ module _ (facts : Facts) (symbols : SymbolMap) (laid : LaidSections) (s : TokenS
       let count = few in
       unnamed_up_to own_place (length whole.table.symbols.symbols) made.forms.displacement.terms (omega (arith, count))
       (facts.named s later before whole text stand made all_placed behind)
+
+  -- and symbols that are there in the end
+  abbrev count : ℕ
+  count = length whole.table.symbols.symbols
+
+  target_there : (made : IsJump pos tokens text before) → AreBelow count made.forms.displacement.terms
+  target_there made = (facts.values s later before whole made.labels text made.forms there behind made.labels_are made.forms_are all_placed).displacement
+
+  -- so, if the item has its field, the labels that were added after the source leave the node as it was
+  node_stays : (field : Field) (made : IsJump pos tokens text before) → option_and_then (slice_get fields) item.field ≡ Some field → field.form ≡ jump_form made.forms
+      → node ≡ node_of symbols n fields items item
+  node_stays field made has holds =
+      let below = subst (λ (form : Form). AreBelowOrOwn count form.terms) (sym holds) (facts.held count Branch made.forms.displacement (target_there made)) in
+      let field_there : FieldIsThere whole.table.symbols fields item = λ other is. subst (λ (f : Field). AreBelowOrOwn count f.form.terms) (same_Some field other (sym has ∙ is)) below in
+      node_is ∙ sym (facts.stay whole.table.symbols symbols n fields items item resolved.labelled field_there)
 
   -- IN THE LAYOUT
 
@@ -254,11 +275,14 @@ module _ (facts : Facts) (symbols : SymbolMap) (laid : LaidSections) (s : TokenS
     }
 
     jump_item : IsJumpItem symbols n fields items condition jump_number item node
-    jump_item = record {
-      shows = shows_as (jump_of condition) (insn_is put.jump ∙ facts.seen text condition (values_in put.jump.forms) jump);
-      holds = recorded jump_first jump_new put.there jump_there jump_more;
-      node_is = node_is;
-    }
+    jump_item =
+        let holds = recorded jump_first jump_new put.there jump_there jump_more in
+        record {
+          shows = shows_as (jump_of condition) (insn_is put.jump ∙ facts.seen text condition (values_in put.jump.forms) jump);
+          holds = holds;
+          node_is = node_stays jump_put put.jump
+              (ap (option_and_then (slice_get fields)) holds ∙ field_known jump_new jump_there jump_number jump_put jump_field_there) refl;
+        }
 
     jump_laid : Laid
     jump_laid =
@@ -300,8 +324,8 @@ module _ (facts : Facts) (symbols : SymbolMap) (laid : LaidSections) (s : TokenS
     of_item : IsItemOf w.insn item node
     of_item = record {
       shows = w.shows;
-      target = item_target symbols n fields items item;
-      node_is = node_is ∙ ap (λ flow. node_by flow (item_target symbols n fields items item)) w.shows.flow;
+      target = item_target whole.table.symbols n fields items item;
+      node_is = node_is ∙ ap (λ flow. node_by flow (item_target whole.table.symbols n fields items item)) w.shows.flow;
     }
 
     got : IsPutAndRead pos tokens text before placed laid w.insn item node starts code
@@ -368,6 +392,11 @@ module _ (facts : Facts) (symbols : SymbolMap) (laid : LaidSections) (s : TokenS
     own_more : own < length new.fields
     own_more = let count = length-append first.fields (field_put ∷ []) in omega (arith, count)
 
+    own_known : option_and_then (slice_get fields) item.field ≡ Some field_put
+    own_known =
+        ap (option_and_then (slice_get fields)) (recorded first new got.put.put.there new_there own_more)
+        ∙ field_known new new_there own field_put own_there
+
     abbrev branch_loaded : IsBranchLoaded symbols laid pos tokens text before placed code
     branch_loaded = record {
       put = got.put;
@@ -380,10 +409,9 @@ module _ (facts : Facts) (symbols : SymbolMap) (laid : LaidSections) (s : TokenS
       shows = shows_as (view_in text (values_in forms)) (insn_is (as_made coded));
       holds = λ field there.
           let same : alone.field ≡ field = same_Some alone.field field (sym alone.immediate ∙ there) in
-          ap (option_and_then (slice_get fields)) (recorded first new got.put.put.there new_there own_more)
-          ∙ field_known new new_there own field_put own_there ∙ ap Some (sym field_put_is)
+          own_known ∙ ap Some (sym field_put_is)
           ∙ ap (λ (f : CodedField). Some (branch_field pos text forms made f before)) same;
-      node_is = node_is;
+      node_is = node_stays field_put (as_made coded) own_known refl;
     }
 
     branch_laid : Laid

@@ -89,7 +89,7 @@ one_followed : (s : TokenStatement) (before after : FollowedSource) → place_fo
 unfolding follow_all
 one_followed s before after is = ap (λ answer. answer >>= follow_all []) is
 
-one_placed : (s : TokenStatement) (before placed : Placed) → place s before ≡ Ok placed → place_all (s ∷ []) before ≡ Ok placed
+pub one_placed : (s : TokenStatement) (before placed : Placed) → place s before ≡ Ok placed → place_all (s ∷ []) before ≡ Ok placed
 unfolding place_all
 one_placed s before placed is = ap (λ answer. answer >>= place_all []) is
 

@@ -27,6 +27,7 @@ use Rattle.scfi_laws.specs.Laid.{Kind, IsLaid}
 use Rattle.scfi_laws.specs.Functions.{IsFunction}
 use Rattle.scfi_laws.specs.TableLaws.{StandsWith, IsTabled, TablesRecover, TablesRestore}
 use Rattle.code_laws.specs.Functions.{laid_place, JumpsAreLaid, FunctionsAreLaid}
+use Rattle.code_laws.specs.Numbers.{NumbersAreKnown}
 use Rattle.function_laws.specs.Tabled.{laid_address, starts_of, fields_of, IsLoadedFunction, IsSynthesized, FunctionsAreTabled}
 use Rattle.function_laws.specs.Recovered.{FunctionTablesRecover}
 use Rattle.function_laws.specs.Jumping.{FunctionJumpsAreLaid}
@@ -39,6 +40,7 @@ pub record Facts : Type 0 where
       → All (IsJoined statements (nothing_followed no_warn asked) f.placed.sections) (functions_at_end f)
   pub steps : Steps
   pub laid : FunctionsAreLaid
+  pub numbers : NumbersAreKnown
   pub jumps : FunctionJumpsAreLaid
   pub inside : (symbols : SymbolMap) (section : ℕ) (fields : List Field) (items : List CodeItem) → AreItems symbols section fields items
 
@@ -54,9 +56,12 @@ some_place (Some x) one other item is = refl
 
 module _ (facts : Facts) (statements : List TokenStatement) (no_warn asked : Bool) (whole : FollowedSource) (number : ℕ) (symbols : SymbolMap) (laid : LaidSections) (code : List ℕ)
     (f : Recorded CodeItem) (a : Analyzed) (ops : List ItemOp) (frame : Frame) (is : IsLoadedFunction statements no_warn asked whole number symbols laid code f)
-    (made : IsSynthesized symbols whole.placed.sections f a ops frame) where
+    (made : IsSynthesized whole.placed.table.symbols whole.placed.sections f a ops frame) where
   abbrev first : FollowedSource
   first = nothing_followed no_warn asked
+
+  abbrev source : SymbolMap
+  source = whole.placed.table.symbols
 
   abbrev fields : List Field
   fields = fields_of whole.placed.sections f.section
@@ -79,17 +84,17 @@ module _ (facts : Facts) (statements : List TokenStatement) (no_warn asked : Boo
   lies =
       let same = ap (λ (items : List CodeItem). λ (i : ℕ). laid_place laid f.section (option_map_or (λ (x : CodeItem). x.place) (slice_get items i) stop)) made.same_items in
       subst (λ (starts : ℕ → ℕ). (kinds : ℕ → Kind) × IsLaid a kinds starts code) same
-      (facts.laid symbols laid statements no_warn asked whole a f.section fields f.start stop code is.is
+      (facts.laid source symbols laid statements no_warn asked whole a f.section fields f.start stop code is.is
       (subst (λ (items : List CodeItem). AreJoined statements first f.section (map seen items) f.start stop) (sym made.same_items) joined)
-      made.same_nodes is.loaded is.numbered
+      made.same_nodes is.loaded (facts.numbers statements no_warn asked is.spelled)
       (subst (λ (starts : ℕ → ℕ). JumpsAreLaid laid f.section statements first a starts code) (sym same)
       (facts.jumps statements no_warn asked whole number symbols laid code f a is.is is.there is.loaded is.resolved made.same_items made.same_nodes)))
 
   function : IsFunction a
   function = record {
     analyzed = made.analyzed;
-    as_many = ap (λ (ns : List Node). length ns) made.same_nodes ∙ nodes_long symbols f.section fields a.items;
-    inside = subst IsInside (sym made.same_nodes) (facts.inside symbols f.section fields a.items).inside;
+    as_many = ap (λ (ns : List Node). length ns) made.same_nodes ∙ nodes_long source f.section fields a.items;
+    inside = subst IsInside (sym made.same_nodes) (facts.inside source f.section fields a.items).inside;
   }
 
   items_stand : ItemsStand f

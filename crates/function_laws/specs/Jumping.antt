@@ -15,7 +15,8 @@ use Rattle.function_laws.specs.Tabled.{starts_of, fields_of, IsResolved}
 
 -- the direct jumps of a function of a source, branches of the loop group among them, are laid as
 -- its items, where the symbols stand in the sections of the layout, which has an object. The
--- function has the nodes of its graph, by the fields that its section has at the end of the source
+-- function has the nodes of its graph, by the symbols of the source and by the fields that its
+-- section has at the end of it
 abbrev pub FunctionJumpsAreLaid : Type 0
 FunctionJumpsAreLaid = (statements : List TokenStatement) (no_warn asked : Bool)
     (whole : FollowedSource) (number : ℕ) (symbols : SymbolMap) (laid : LaidSections)
@@ -23,7 +24,9 @@ FunctionJumpsAreLaid = (statements : List TokenStatement) (no_warn asked : Bool)
     → follow_all statements (nothing_followed no_warn asked) ≡ Ok whole
     → slice_get (functions_at_end whole) number ≡ Some (mapped seen f)
     → (loaded : IsLoadedLater symbols laid f.section whole.placed.sections code)
-    → IsResolved symbols loaded.later laid → a.items ≡ f.items
-    → a.nodes ≡ nodes_of symbols f.section (fields_of whole.placed.sections f.section) a.items
+    → IsResolved whole.placed.table.symbols symbols loaded.later laid → a.items ≡ f.items
+    → a.nodes
+    ≡ nodes_of whole.placed.table.symbols f.section (fields_of whole.placed.sections f.section)
+    a.items
     → JumpsAreLaid laid f.section statements (nothing_followed no_warn asked) a
     (starts_of laid f) code

@@ -42,5 +42,5 @@ FunctionTablesRecover = (statements : List TokenStatement) (no_warn asked : Bool
     (whole : FollowedSource) (number : ℕ) (symbols : SymbolMap) (laid : LaidSections)
     (code : List ℕ) (f : Recorded CodeItem) (a : Analyzed) (ops : List ItemOp) (frame : Frame)
     → IsLoadedFunction statements no_warn asked whole number symbols laid code f
-    → IsSynthesized symbols whole.placed.sections f a ops frame
+    → IsSynthesized whole.placed.table.symbols whole.placed.sections f a ops frame
     → RecoversInBytes laid code f a frame

@@ -1,5 +1,5 @@
 -- Functions of a source that have frame tables, in their sections as a linker leaves these.
-use Rattle.std.specs.Prelude.{◌≡◌, ℕ, Bool, List, [], Some, Ok, slice_get, unwrap_or}
+use Rattle.std.specs.Prelude.{◌≡◌, ℕ, Bool, List, [], All, Some, Ok, slice_get, unwrap_or}
 use Rattle.std.specs.Option.{option_map_or}
 use Rattle.asm_base.specs.declared.places.SectionPlace.{SectionPlace}
 use Rattle.asm_lines.specs.NextStatements.{TokenStatement}
@@ -12,15 +12,17 @@ use Rattle.cfi_directives.specs.declared.frames.Frame.{Frame}
 use Rattle.code_functions.specs.declared.items.CodeItem.{CodeItem}
 use Rattle.code_functions.specs.Recorded.{Recorded}
 use Rattle.code_functions.specs.Seen.{seen, mapped}
+use Rattle.flow_graph.specs.AddedLabels.{IsLabelled}
 use Rattle.flow_graph.specs.Nodes.{nodes_of}
 use Rattle.asm_functions.specs.FollowedSource.{FollowedSource, nothing_followed, follow_all, functions_at_end}
 use Rattle.scfi_pass.specs.declared.item_ops.ItemOp.{ItemOp}
 use Rattle.scfi_pass.specs.Synthesis.{IsTableOf}
 use Rattle.scfi_pass.specs.Tables.{Analyzed, IsAnalyzed}
 use Rattle.synthesis_laws.specs.TableFrames.{IsFrameOf}
+use Rattle.form_laws.specs.Numbers.{IsSpelled}
 use Rattle.scfi_laws.specs.Laid.{Kind}
 use Rattle.scfi_laws.specs.TableLaws.{IsTabled}
-use Rattle.code_laws.specs.Functions.{laid_place, starts_in, InsnsAreNumbered}
+use Rattle.code_laws.specs.Functions.{laid_place, starts_in}
 use Rattle.code_laws.specs.Sections.{IsLoadedLater}
 use Rattle.target_laws.specs.Rooms.{StandIn}
 
@@ -38,28 +40,29 @@ abbrev pub fields_of : List LooseSection → ℕ → List Field
 fields_of sections number =
     option_map_or (λ section. section.fields) (slice_get sections number) []
 
--- the symbols stand in these sections, whose layout has an object
-pub record IsResolved (symbols : SymbolMap) (sections : LooseSections) (laid : LaidSections)
-    : Type 0 where
+-- to the symbols of the source came labels alone, as those of a frame table do; all of them stand
+-- in these sections, whose layout has an object
+pub record IsResolved (source symbols : SymbolMap) (sections : LooseSections)
+    (laid : LaidSections) : Type 0 where
+  pub labelled : IsLabelled source symbols
   pub stand : StandIn symbols sections
   pub object : List ℕ
   pub is : object_of symbols laid ≡ Ok object
 
--- the statements of a source are followed, the function is that of this number at their end, and
--- these are the bytes of its section as a linker leaves it. Asked besides: the symbols stand in the
--- sections of the layout, which has an object, and a number that is known in an instruction has
--- 64 bits
+-- the statements of a source are followed, whose tokens are spelled in bytes, the function is that
+-- of this number at their end, and these are the bytes of its section as a linker leaves it. To the
+-- symbols of the source labels alone were added before the layout, which has an object
 pub record IsLoadedFunction (statements : List TokenStatement) (no_warn asked : Bool)
     (whole : FollowedSource) (number : ℕ) (symbols : SymbolMap) (laid : LaidSections)
     (code : List ℕ) (f : Recorded CodeItem) : Type 0 where
   pub is : follow_all statements (nothing_followed no_warn asked) ≡ Ok whole
+  pub spelled : All IsSpelled statements
   pub there : slice_get (functions_at_end whole) number ≡ Some (mapped seen f)
   pub loaded : IsLoadedLater symbols laid f.section whole.placed.sections code
-  pub resolved : IsResolved symbols loaded.later laid
-  pub numbered : InsnsAreNumbered statements (nothing_followed no_warn asked)
+  pub resolved : IsResolved whole.placed.table.symbols symbols loaded.later laid
 
--- it is analyzed with the nodes of its graph, by the fields that its section has at the end of the
--- source; these instructions are its frame table, and those of the procedure
+-- it is analyzed with the nodes of its graph, by these symbols and the fields of its section; these
+-- instructions are its frame table, and those of the procedure
 pub record IsSynthesized (symbols : SymbolMap) (sections : List LooseSection)
     (f : Recorded CodeItem) (a : Analyzed) (ops : List ItemOp) (frame : Frame) : Type 0 where
   pub analyzed : IsAnalyzed a
@@ -71,12 +74,13 @@ pub record IsSynthesized (symbols : SymbolMap) (sections : List LooseSection)
   pub frame_of : IsFrameOf f ops frame
   pub section : frame.section ≡ f.section
 
--- then its items lie in these bytes, and the procedure stands with them in the layout
+-- then, if by the symbols and the fields at the end of the source, its items lie in these bytes,
+-- and the procedure stands with them in the layout
 abbrev pub FunctionsAreTabled : Type 0
 FunctionsAreTabled = (statements : List TokenStatement) (no_warn asked : Bool)
     (whole : FollowedSource) (number : ℕ) (symbols : SymbolMap) (laid : LaidSections)
     (code : List ℕ) (f : Recorded CodeItem) (a : Analyzed) (ops : List ItemOp) (frame : Frame)
     → IsLoadedFunction statements no_warn asked whole number symbols laid code f
-    → IsSynthesized symbols whole.placed.sections f a ops frame
+    → IsSynthesized whole.placed.table.symbols whole.placed.sections f a ops frame
     → (kinds : ℕ → Kind)
     × IsTabled f a ops frame (laid_address laid) kinds (starts_of laid f) code

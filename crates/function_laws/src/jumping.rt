@@ -9,6 +9,8 @@ use code_laws::{
     encodings_are_read_loaded, encodings_are_seen, ends_are_places, items_are_placed,
     jumps_are_written,
 };
+use flow_graph::added_labels_change_no_target;
+use form_laws::{forms_name_symbols, held_forms_name_symbols, values_name_symbols};
 use place_laws::statements_stand;
 use target_laws::{
     branches_are_read, branches_are_said, branches_have_targets, jumps_are_read, jumps_are_seen,
@@ -37,4 +39,8 @@ pub fn function_jumps_are_laid()
     branches_are_read();
     jumps_have_room();
     branches_are_said();
+    forms_name_symbols();
+    values_name_symbols();
+    held_forms_name_symbols();
+    added_labels_change_no_target();
 }

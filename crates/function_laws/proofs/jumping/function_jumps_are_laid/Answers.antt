@@ -10,6 +10,8 @@ returns c =
       placed = c.items_are_placed.ensures;
       ends = c.ends_are_places.ensures;
       written = c.jumps_are_written.ensures;
+      forms_begin = c.forms_name_symbols.ensures.begins;
+      forms_stay = c.forms_name_symbols.ensures.stays;
       puts = record {
         named = c.places_stand.ensures.named;
         jump = c.jumps_are_put.ensures;
@@ -23,5 +25,8 @@ returns c =
         read_branch = c.branches_are_read.ensures;
         room = c.jumps_have_room.ensures;
         said = c.branches_are_said.ensures;
+        values = c.values_name_symbols.ensures;
+        held = c.held_forms_name_symbols.ensures;
+        stay = c.added_labels_change_no_target.ensures.nodes;
       };
     })

@@ -13,6 +13,7 @@ returns c =
         labels = c.labels_change_symbols.ensures;
       };
       laid = c.functions_are_laid.ensures;
+      numbers = c.insns_are_numbered.ensures;
       jumps = c.function_jumps_are_laid.ensures;
       inside = c.successors_are_items.ensures;
     })
