@@ -11,26 +11,14 @@ use x86_insn::Suffix;
 
 /// The sections and the symbols so far.
 #[derive(Drop)]
-pub struct Made {
-    alloc: Global,
-    sections: Sections,
-    symbols: Symbols,
-}
-
-impl Made {
-    /// The sections and the symbols.
-    pub fn into_parts(self) -> (Sections, Symbols) {
-        let Made {
-            alloc: _,
-            sections,
-            symbols,
-        } = self;
-        (sections, symbols)
-    }
+pub struct Made<'a> {
+    pub alloc: Global,
+    pub sections: &'a mut Sections,
+    pub symbols: &'a mut Symbols,
 }
 
 /// The symbol of this name.
-fn symbol(made: &mut Made, text: &str) -> Option<SymId> {
+fn symbol(made: &mut Made<'_>, text: &str) -> Option<SymId> {
     let name = Name::Plain(Spelling::new(made.alloc, text.as_bytes()).ok()?);
     made.symbols.name_of(&name).ok()
 }
@@ -55,8 +43,8 @@ fn spot(sections: &Sections) -> Option<Spot> {
 }
 
 /// `label=NAME`
-fn put_label(made: &mut Made, text: &str) -> Option<()> {
-    let spot = spot(&made.sections)?;
+fn put_label(made: &mut Made<'_>, text: &str) -> Option<()> {
+    let spot = spot(made.sections)?;
     let id = symbol(made, text)?;
     if id.index() as usize >= made.symbols.as_slice().len() {
         return None;
@@ -65,7 +53,7 @@ fn put_label(made: &mut Made, text: &str) -> Option<()> {
 }
 
 /// `weak=NAME`
-fn put_weak(made: &mut Made, text: &str) -> Option<()> {
+fn put_weak(made: &mut Made<'_>, text: &str) -> Option<()> {
     let id = symbol(made, text)?;
     if id.index() as usize >= made.symbols.as_slice().len() {
         return None;
@@ -82,7 +70,7 @@ fn difference(alloc: Global, one: SymId, other: SymId) -> Option<Linear> {
 
 /// An item that grows with its value.
 fn put_growing(
-    made: &mut Made,
+    made: &mut Made<'_>,
     pos: Pos,
     kind: Growth,
     suffix: Option<Suffix>,
@@ -96,7 +84,7 @@ fn put_growing(
 
 /// `jmp=NAME`, `plt=NAME`, `je=NAME`
 fn put_jump(
-    made: &mut Made,
+    made: &mut Made<'_>,
     pos: Pos,
     condition: Option<Condition>,
     suffix: Option<Suffix>,
@@ -108,7 +96,7 @@ fn put_jump(
 }
 
 /// `uleb=NAME-NAME`, `sleb=NAME-NAME`, `advance=NAME-NAME`
-fn put_number(made: &mut Made, pos: Pos, kind: Growth, text: &str) -> Option<()> {
+fn put_number(made: &mut Made<'_>, pos: Pos, kind: Growth, text: &str) -> Option<()> {
     let (one, other) = text.split_once('-')?;
     let one = symbol(made, one)?;
     let other = symbol(made, other)?;
@@ -117,7 +105,7 @@ fn put_number(made: &mut Made, pos: Pos, kind: Growth, text: &str) -> Option<()>
 }
 
 /// An item that holds no value.
-fn put_item(made: &mut Made, pos: Pos, content: Content) -> Option<()> {
+fn put_item(made: &mut Made<'_>, pos: Pos, content: Content) -> Option<()> {
     if made.sections.is_empty() {
         return None;
     }
@@ -125,7 +113,7 @@ fn put_item(made: &mut Made, pos: Pos, content: Content) -> Option<()> {
 }
 
 /// `zero=BYTES`
-fn put_zeros(made: &mut Made, pos: Pos, text: &str) -> Option<()> {
+fn put_zeros(made: &mut Made<'_>, pos: Pos, text: &str) -> Option<()> {
     let count = text.parse::<u64>().ok()?;
     put_item(
         made,
@@ -135,7 +123,7 @@ fn put_zeros(made: &mut Made, pos: Pos, text: &str) -> Option<()> {
 }
 
 /// `byte=VALUE`
-fn put_byte(made: &mut Made, pos: Pos, text: &str) -> Option<()> {
+fn put_byte(made: &mut Made<'_>, pos: Pos, text: &str) -> Option<()> {
     let byte = text.parse::<u8>().ok()?;
     if made.sections.is_empty() {
         return None;
@@ -144,7 +132,7 @@ fn put_byte(made: &mut Made, pos: Pos, text: &str) -> Option<()> {
 }
 
 /// `align=LOG,MOST`, `code=LOG,MOST`
-fn put_alignment(made: &mut Made, pos: Pos, padding: Padding, text: &str) -> Option<()> {
+fn put_alignment(made: &mut Made<'_>, pos: Pos, padding: Padding, text: &str) -> Option<()> {
     let (log, most) = text.split_once(',')?;
     let log = log.parse::<u8>().ok()?;
     let most = most.parse::<u64>().ok()?;
@@ -156,7 +144,7 @@ fn put_alignment(made: &mut Made, pos: Pos, padding: Padding, text: &str) -> Opt
 }
 
 /// `org=ITEMS,AHEAD`, filled with ones
-fn put_org(made: &mut Made, pos: Pos, text: &str) -> Option<()> {
+fn put_org(made: &mut Made<'_>, pos: Pos, text: &str) -> Option<()> {
     let (from, ahead) = text.split_once(',')?;
     let from = from.parse::<u32>().ok()?;
     let ahead = ahead.parse::<u64>().ok()?;
@@ -168,7 +156,7 @@ fn put_org(made: &mut Made, pos: Pos, text: &str) -> Option<()> {
 }
 
 /// Puts the item of a word.
-fn put_word(made: &mut Made, pos: Pos, word: &str) -> Option<()> {
+fn put_word(made: &mut Made<'_>, pos: Pos, word: &str) -> Option<()> {
     let (kind, text) = word.split_once('=')?;
     match kind {
         "label" => put_label(made, text),
@@ -189,25 +177,11 @@ fn put_word(made: &mut Made, pos: Pos, word: &str) -> Option<()> {
 }
 
 /// Puts the items of words, each of which is a statement of a line of its own.
-fn put_words(made: &mut Made, words: &str) -> Option<()> {
+pub fn put_words(made: &mut Made<'_>, words: &str) -> Option<()> {
     let mut line = 0u32;
     for word in words.split(' ') {
         line = line.saturating_add(1);
         put_word(made, Pos { file: 0, line }, word)?;
     }
     Some(())
-}
-
-/// The sections of these words.
-pub fn made_sections(alloc: Global, words: &str) -> Option<Made> {
-    let sections = Sections::new(alloc).ok()?;
-    let mut made = Made {
-        alloc,
-        sections,
-        symbols: Symbols::new(alloc),
-    };
-    match put_words(&mut made, words) {
-        Some(()) => Some(made),
-        None => None,
-    }
 }

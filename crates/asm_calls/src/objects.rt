@@ -3,7 +3,7 @@
 ghost use Rattle.asm_relax.specs.declared.plan_states.PlanState.TheVariants.{LaidOut};
 
 use crate::layouts::{settled_plan, write_settled};
-use crate::made_sections::{Made, made_sections};
+use crate::made_sections::{Made, put_words};
 use asm_base::Output;
 use asm_frags::{Laid, Sections};
 use asm_relax::Plan;
@@ -83,24 +83,48 @@ fn write_object_of(
 }
 
 /// The object of sections and symbols, or the fault of their layout.
-fn write_laid(alloc: Global, made: Made, out: &mut Vec<u8>) -> io::Result<()> {
-    let (sections, symbols) = made.into_parts();
-    let Ok(mut plan) = Plan::new(alloc, sections, &symbols) else {
+fn write_laid(
+    alloc: Global,
+    sections: Sections,
+    symbols: &Symbols,
+    out: &mut Vec<u8>,
+) -> io::Result<()> {
+    let Ok(mut plan) = Plan::new(alloc, sections, symbols) else {
         return write_line("no memory", out);
     };
     match settled_plan::<Brand>(&mut plan, Blank::new(1)) {
         Ok(settled) => {
             write_settled(Ok(settled), out)?;
-            write_object_of(alloc, plan.laid(), &symbols, out)
+            write_object_of(alloc, plan.laid(), symbols, out)
         }
         Err(fault) => write_settled(Err(fault), out),
     }
 }
 
+/// The object of the sections of these words, if they are such.
+fn write_sections(
+    alloc: Global,
+    sections: Sections,
+    words: &str,
+    out: &mut Vec<u8>,
+) -> io::Result<()> {
+    let mut sections = sections;
+    let mut symbols = Symbols::new(alloc);
+    let mut made = Made {
+        alloc,
+        sections: &mut sections,
+        symbols: &mut symbols,
+    };
+    match put_words(&mut made, words) {
+        Some(()) => write_laid(alloc, sections, &symbols, out),
+        None => write_line("no such call", out),
+    }
+}
+
 /// `object WORDS`: the rounds of the layout of `.text`, its bytes and its relocations, or the first fault.
 pub fn write_object(alloc: Global, words: &str, out: &mut Vec<u8>) -> io::Result<()> {
-    match made_sections(alloc, words) {
-        Some(made) => write_laid(alloc, made, out),
-        None => write_line("no such call", out),
+    match Sections::new(alloc) {
+        Ok(sections) => write_sections(alloc, sections, words, out),
+        Err(_) => write_line("no such call", out),
     }
 }
