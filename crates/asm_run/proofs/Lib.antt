@@ -5,6 +5,7 @@ mod Deliveries
 mod StartedFiles
 mod CommandSamples
 mod ReadsBackAgain
+mod RecoversAgain
 mod ReadableObjects
 mod StandingOutcomes
 mod OneOutcome

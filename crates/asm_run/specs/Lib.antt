@@ -4,4 +4,5 @@ pub mod Invoked
 pub mod Outcome
 pub mod Answers
 pub mod ReadsBack
+pub mod Recovers
 pub mod Readable

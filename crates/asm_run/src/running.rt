@@ -9,6 +9,7 @@ ghost use Rattle.asm_front.specs.Synthesis.{Synthesis};
 ghost use Rattle.asm_run.specs.Outcome.{CommandHolds, CommandIsMade, invocation_outcome, outcome};
 ghost use Rattle.asm_run.specs.Readable.{CommandIsReadable, InvocationIsReadable};
 ghost use Rattle.asm_run.specs.ReadsBack.{CommandReadsBack};
+ghost use Rattle.asm_run.specs.Recovers.{CommandRecovers};
 ghost use Rattle.asm_run.specs.Answers.{Answers, Completes, CountsMissingOutcome, MakesFile, MakesFileInPart, MakesInPart, MakesObject, ReadsAll, StartsFront};
 
 use crate::saying::say_all;
@@ -16,6 +17,7 @@ use crate::words::{Invocation, read_command};
 use asm_base::{Channel, Console, Failed, Inputs, NoMemory, Output, Status, refusal, remarks};
 use asm_front::{AsmFault, Options, assemble, synthesis_is_one, written_reads_back};
 use elf_object::Object;
+use recovery_laws::objects_recover;
 use std::alloc::{AllocError, Global};
 
 /// What is said where the words are no command.
@@ -159,7 +161,7 @@ fn run_source<I: Inputs, O: Output, C: Console>(
 }
 
 /// Reads the words, assembles the source that they name, says the messages, and makes the object.
-#[tactic(auto, unfolding(crate::specs::Words::usage_text), using(crate::proofs::OneOutcome::command_is_one, crate::proofs::ReadsBackAgain::command_reads_back, crate::proofs::StandingOutcomes::completes, crate::proofs::StandingOutcomes::memory_lost, crate::proofs::StandingOutcomes::usage_said, crate::proofs::StandingOutcomes::usage_cut, crate::proofs::StartedFiles::starts_none))]
+#[tactic(auto, unfolding(crate::specs::Words::usage_text), using(crate::proofs::OneOutcome::command_is_one, crate::proofs::ReadsBackAgain::command_reads_back, crate::proofs::RecoversAgain::command_recovers, crate::proofs::StandingOutcomes::completes, crate::proofs::StandingOutcomes::memory_lost, crate::proofs::StandingOutcomes::usage_said, crate::proofs::StandingOutcomes::usage_cut, crate::proofs::StartedFiles::starts_none))]
 pub fn run<I: Inputs, O: Output, C: Console>(
     alloc: Global,
     words: &Vec<String>,
@@ -215,6 +217,13 @@ pub fn run<I: Inputs, O: Output, C: Console>(
     ensures reads_back { CommandReadsBack (command_of (map string_bytes words.now.items))
         (I.contents ins.old) }
 
+    // The frame tables that are worked out are true, if files are bytes: the row that a function's entry in `.eh_frame` gives recovers the
+    // caller along each execution in which calls keep the registers, the return address and the slots, and stores whose place is not followed
+    // leave these alone. The bytes executed are those of the object but for relocated fields, which may hold anything; at exits the seven
+    // registers are as at entry. Code in a section without bytes in the file (of zeros) is left out.
+    ensures recovers { CommandRecovers (command_of (map string_bytes words.now.items))
+        (I.contents ins.old) }
+
     // All numbers of the object that was made fit their fields, and a reader finds its sections by their headers, where those places are.
     ensures readable { result ≡ Status.Done
         → CommandHolds (command_of (map string_bytes words.now.items)) (I.contents ins.old) result
@@ -240,6 +249,7 @@ pub fn run<I: Inputs, O: Output, C: Console>(
         → ins.new ≡ ins.old }
 {
     written_reads_back();
+    objects_recover();
     synthesis_is_one();
     match read_command(alloc, words.as_slice()) {
         Ok(Some(invocation)) => run_source(alloc, invocation, ins, obj, con),
