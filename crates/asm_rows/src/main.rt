@@ -2,6 +2,7 @@
 #![tactic(auto)]
 
 mod calls;
+mod frames;
 mod objects;
 mod relocations;
 mod reports;

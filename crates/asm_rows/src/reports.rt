@@ -1,6 +1,7 @@
 //! What each row makes, as text.
 
 use crate::calls::write_every_call;
+use crate::frames::write_frames;
 use crate::objects::write_object;
 use crate::runs::{failing_calls, memory_files, run_row};
 use asm_base::Channel;
@@ -42,6 +43,7 @@ fn write_row(alloc: Global, row: &Row, out: &mut Vec<u8>) -> io::Result<()> {
     match row.shown {
         Shown::Object => write_object(alloc, made, false, out),
         Shown::FullObject => write_object(alloc, made, true, out),
+        Shown::Frames => write_frames(made, out),
         Shown::EveryCall => write_every_call(alloc, row, &files, &ran, out),
     }
 }

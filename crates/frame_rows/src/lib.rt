@@ -6,3 +6,4 @@ mod lines;
 mod shown;
 
 pub use lines::write_entry;
+pub use shown::write_row;

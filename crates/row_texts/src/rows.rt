@@ -44,6 +44,8 @@ pub enum Shown {
     Object,
     /// The header of every section as well.
     FullObject,
+    /// The rows of the object's frame table, by its bytes.
+    Frames,
     /// What is left where each call of the outside fails in turn.
     EveryCall,
 }
@@ -164,6 +166,7 @@ impl Row {
         match line {
             "$" => self.words = Vec::new(alloc),
             "full" => self.shown = Shown::FullObject,
+            "frames" => self.shown = Shown::Frames,
             "every call" => self.shown = Shown::EveryCall,
             _ => return Err(RowFault::NotUnderstood),
         }
