@@ -1,2 +1,4 @@
 pub mod WordLemmas
 pub mod BitLemmas
+pub mod ListedLemmas
+pub mod TreeLemmas

@@ -1,2 +1,3 @@
 -- The definitions that contracts cite, in reading order.
 pub mod Bits
+pub mod Trees

@@ -1,10 +1,12 @@
 //! Sets of numbers, as bits.
 #![tactic(auto)]
 
+mod bits;
 mod numbers;
 mod sets;
+mod trees;
 mod words;
 
 pub use numbers::Numbers;
-pub use sets::BitSet;
+pub use sets::NumberSet;
 pub use words::Word;

@@ -1,218 +1,188 @@
-//! Sets of numbers, as bits: the first ones in a word, and the others behind it.
+//! Sets of numbers below a width, which share what they have with the sets that they come from.
 
-ghost use Rattle.std.specs.Prelude.{◌≡◌, ◌≢◌, ◌<◌, ℕ, false, get_or};
-ghost use Rattle.number_sets.specs.Bits.{has_bit};
+ghost use Rattle.std.specs.Prelude.{◌≡◌};
 
 use crate::numbers::Numbers;
+use crate::trees::{Tree, both, has_in, is_within, last_in, with, without};
 use std::alloc::{AllocError, Global};
 use std::marker::Model;
+use std::rc::Rc;
 
-fn bit_at(bits: &[bool], k: usize) -> bool
-    ensures { result ≡ get_or bits.now k false }
-{
-    match bits.get(k) {
-        Some(bit) => *bit,
-        None => false,
-    }
-}
-
-/// Whether a word has a bit.
-#[inline(always)]
-pub(crate) fn has_bit(word: u64, k: usize) -> bool
-    requires { k < 64 }
-    ensures { result ≡ has_bit word k }
-{
-    (word >> k) % 2 == 1
-}
-
-/// A word with a bit as it is told, and its other bits.
-#[inline(always)]
-#[tactic(auto, using(crate::proofs::WordLemmas::put_here, crate::proofs::WordLemmas::put_other, crate::proofs::WordLemmas::cleared_here, crate::proofs::WordLemmas::cleared_other))]
-pub(crate) fn with_bit(word: u64, k: usize, bit: bool) -> u64
-    requires { k < 64 }
-    ensures here { has_bit result k ≡ bit }
-    ensures others { (j : ℕ) → j < 64 → j ≢ k → has_bit result j ≡ has_bit word j }
-{
-    if bit {
-        word | (1u64 << k)
-    } else {
-        word & !(1u64 << k)
-    }
-}
-
-/// A set of numbers, of which it is told up to its length whether it has them.
+/// A set of numbers below its width.
 #[derive(Drop)]
-pub struct BitSet {
-    low: u64,
-    /// How many of the bits of the word count.
-    count: usize,
-    more: Vec<bool>,
+pub struct NumberSet {
+    root: Rc<Tree>,
+    width: usize,
 }
 
-impl Model for BitSet {
-    ghost use Rattle.std.specs.Prelude.{◌≤◌, List, Bool, ◌++◌};
-    ghost use Rattle.number_sets.specs.Bits.{low_bits};
+impl Model for NumberSet {
+    ghost use Rattle.std.specs.Prelude.{List, Bool};
+    ghost use Rattle.number_sets.specs.Trees.{has_in, listed, IsShaped};
 
     ghost Value = { List Bool };
 
-    ghost view = { λ s. low_bits s.low s.count ++ s.more.items };
+    ghost view = { λ s. listed (has_in s.root.value s.width) s.width };
 
-    ghost invariant = { λ s. s.count ≤ 64 };
+    ghost invariant = { λ s. IsShaped s.root.value s.width };
 }
 
-impl Numbers for BitSet {
+impl Numbers for NumberSet {
     ghost use Rattle.std.specs.Prelude.{false, get_or};
 
     ghost list = { λ s. s };
 
-    #[inline(always)]
-    #[tactic(auto, using(crate::proofs::WordLemmas::in_word, crate::proofs::WordLemmas::behind_word))]
+    #[tactic(auto, using(crate::proofs::ListedLemmas::get_listed, crate::proofs::ListedLemmas::past_listed))]
     fn has(&self, k: usize) -> bool {
-        if k < self.count {
-            has_bit(self.low, k)
-        } else {
-            bit_at(&self.more, k - self.count)
-        }
+        k < self.width && has_in(&self.root, self.width, k)
     }
 
-    #[inline(always)]
-    #[tactic(auto, using(crate::proofs::WordLemmas::short_bits))]
+    #[tactic(auto, using(crate::proofs::ListedLemmas::short_listed, crate::proofs::ListedLemmas::length_listed))]
     fn is_short(&self) -> bool {
-        if self.more.len() != 0 {
-            return false;
-        }
-        self.low >> 6 == 0
+        self.last(6, self.width).is_none()
     }
 }
 
-impl BitSet {
-    ghost use Rattle.std.specs.Prelude.{◌≡◌, ◌<◌, ◌≤◌, ◌&&◌, ◌++◌, ◌∷◌, [], ℕ, false, IsTrue, IsFalse, IfOk, IfSome, get_or, length, slice_set, sum_by};
+impl NumberSet {
+    ghost use Rattle.std.specs.Prelude.{◌≡◌, ◌<◌, ◌≤◌, ◌&&◌, ◌||◌, ◌==◌, not, nat_lt, nat_le, ℕ, false, IsTrue, IsFalse, IfOk, IfSome, OnOk, get_or, length, sum_by};
     ghost use Rattle.number_sets.specs.Bits.{counted};
+    ghost use Rattle.number_sets.specs.Trees.{IsLast};
 
     /// The set of no number.
-    #[tactic(auto, unfolding(crate::specs::Bits::low_bits))]
-    pub fn new(alloc: Global) -> BitSet
-        ensures { result ≡ [] }
+    #[tactic(auto, using(crate::proofs::ListedLemmas::length_listed, crate::proofs::ListedLemmas::none_listed))]
+    pub fn new(alloc: Global, width: usize) -> Result<NumberSet, AllocError>
+        ensures long { IfOk result (λ s. length s ≡ width) }
+        ensures none { IfOk result (λ s. (k : ℕ) → get_or s k false ≡ false) }
     {
-        BitSet {
-            low: 0,
-            count: 0,
-            more: Vec::new(alloc),
-        }
+        Ok(NumberSet {
+            root: Rc::new(alloc, Tree::Empty)?,
+            width,
+        })
     }
 
-    /// Up to which number it is told.
+    /// The width.
     #[inline(always)]
-    #[tactic(auto, using(crate::proofs::WordLemmas::length_bits))]
+    #[tactic(auto, using(crate::proofs::ListedLemmas::length_listed))]
     pub fn len(&self) -> usize
         ensures { result ≡ length self.now }
     {
-        self.count + self.more.len()
-    }
-
-    /// Tells whether it has the number that is next.
-    #[inline(always)]
-    pub fn push(&mut self, bit: bool) -> Result<(), AllocError>
-        ensures { IfOk result (λ _. self.new ≡ self.old ++ bit ∷ []) }
-    {
-        let count = self.count;
-        if count < 64 {
-            if self.more.len() == 0 {
-                self.low = with_bit(self.low, count, bit);
-                self.count = count + 1;
-                return Ok(());
-            }
-        }
-        self.more.push(bit)?;
-        Ok(())
+        self.width
     }
 
     /// The same set once more.
     #[inline(always)]
-    pub fn copy(&self, alloc: Global) -> Result<BitSet, AllocError>
+    pub fn copy(&self) -> Result<NumberSet, AllocError>
         ensures { IfOk result (λ s. s ≡ self.now) }
     {
-        Ok(BitSet {
-            low: self.low,
-            count: self.count,
-            more: Vec::from_slice(alloc, &self.more)?,
+        Ok(NumberSet {
+            root: self.root.clone()?,
+            width: self.width,
         })
     }
 
-    /// The set up to a number, where its word goes so far.
-    #[inline(always)]
-    #[tactic(auto, using(crate::proofs::WordLemmas::length_bits, crate::proofs::WordLemmas::in_word))]
-    pub fn first(&self, alloc: Global, count: usize) -> Option<BitSet>
-        ensures long { IfSome result (λ s. length s ≡ count) }
-        ensures same { IfSome result (λ s. (k : ℕ) → k < count
-            → get_or s k false ≡ get_or self.now k false) }
+    /// Puts a number in.
+    #[tactic(auto, using(crate::proofs::ListedLemmas::length_listed, crate::proofs::ListedLemmas::put_listed))]
+    pub fn put(&mut self, alloc: Global, k: usize) -> Result<(), AllocError>
+        requires { k < length self.old }
+        ensures long { OnOk result (length self.new ≡ length self.old) }
+        ensures each { OnOk result ((j : ℕ) → get_or self.new j false
+            ≡ (j == k || get_or self.old j false)) }
     {
-        if count <= self.count {
-            Some(BitSet {
-                low: self.low,
-                count,
-                more: Vec::new(alloc),
-            })
-        } else {
-            None
-        }
+        self.root = with(alloc, &self.root, self.width, k)?;
+        Ok(())
     }
 
     /// Takes a number out.
-    fn clear(&mut self, k: usize)
+    #[tactic(auto, using(crate::proofs::ListedLemmas::length_listed, crate::proofs::ListedLemmas::taken_listed))]
+    pub fn take(&mut self, alloc: Global, k: usize) -> Result<(), AllocError>
         requires { k < length self.old }
-        ensures { self.new ≡ slice_set self.old k false }
+        ensures long { OnOk result (length self.new ≡ length self.old) }
+        ensures each { OnOk result ((j : ℕ) → get_or self.new j false
+            ≡ (get_or self.old j false && not (j == k))) }
     {
-        let count = self.count;
-        if k < count {
-            self.low = with_bit(self.low, k, false);
-            return;
-        }
-        let at = k - count;
-        self.more[at] = false;
+        self.root = without(alloc, &self.root, self.width, k, k + 1)?;
+        Ok(())
     }
 
-    /// Leaves the numbers that both sets have, one by one, and tells whether that is less.
-    fn meet_each(&mut self, other: &BitSet) -> bool
-        ensures both { (k : ℕ) → get_or self.new k false
-            ≡ (get_or self.old k false && get_or other.now k false) }
-        ensures less { IsTrue result → sum_by counted self.new < sum_by counted self.old }
-        ensures same { IsFalse result → self.new ≡ self.old }
+    /// Takes the numbers from one on up to another out.
+    #[tactic(auto, using(crate::proofs::ListedLemmas::length_listed, crate::proofs::ListedLemmas::cleared_listed, crate::proofs::ListedLemmas::kept_listed))]
+    pub fn clear(&mut self, alloc: Global, from: usize, to: usize) -> Result<(), AllocError>
+        ensures long { OnOk result (length self.new ≡ length self.old) }
+        ensures each { OnOk result ((k : ℕ) → get_or self.new k false
+            ≡ (get_or self.old k false && not (nat_le from k && nat_lt k to))) }
     {
-        let mut changed = false;
-        for k in 0..self.len() {
-            if self.has(k) && !other.has(k) {
-                self.clear(k);
-                changed = true;
-            }
+        if self.last(from, to).is_none() {
+            return Ok(());
         }
-        changed
+        self.root = without(alloc, &self.root, self.width, from, to)?;
+        Ok(())
     }
 
-    /// Whether the other set has all its numbers, by a look at the words.
-    #[inline(always)]
-    #[tactic(auto, using(crate::proofs::WordLemmas::within_bits))]
-    pub fn is_within(&self, other: &BitSet) -> bool
+    /// The greatest number from one on up to another.
+    #[tactic(auto, using(crate::proofs::ListedLemmas::last_listed))]
+    pub fn last(&self, from: usize, to: usize) -> Option<usize>
+        ensures { IsLast (λ k. get_or self.now k false) from to result }
+    {
+        last_in(&self.root, self.width, from, to.min(self.width))
+    }
+
+    /// Whether the other set has all its numbers, by a look at sets of one width.
+    #[tactic(auto, using(crate::proofs::ListedLemmas::within_listed))]
+    pub fn is_within(&self, other: &NumberSet) -> bool
         ensures { IsTrue result → (k : ℕ) → get_or self.now k false
             ≡ (get_or self.now k false && get_or other.now k false) }
     {
-        if self.more.len() != 0 || self.count > other.count {
+        if self.width != other.width {
             return false;
         }
-        self.low & other.low == self.low
+        is_within(&self.root, &other.root, self.width)
+    }
+
+    /// The numbers of the set that are below another width.
+    pub fn resized(&self, alloc: Global, width: usize) -> Result<NumberSet, AllocError>
+        ensures long { IfOk result (λ s. length s ≡ width) }
+        ensures same { IfOk result (λ s. (k : ℕ) → k < width
+            → get_or s k false ≡ get_or self.now k false) }
+    {
+        let mut out = NumberSet::new(alloc, width)?;
+        for k in 0..width {
+            if self.has(k) {
+                out.put(alloc, k)?;
+            }
+        }
+        Ok(out)
+    }
+
+    /// Leaves the numbers that both sets have, of which the other has the same width, and tells
+    /// whether that is less.
+    #[tactic(auto, using(crate::proofs::ListedLemmas::both_listed, crate::proofs::ListedLemmas::within_listed))]
+    fn meet_same(&mut self, alloc: Global, other: &NumberSet) -> Result<bool, AllocError>
+        requires { length self.old ≡ length other.now }
+        ensures both { OnOk result ((k : ℕ) → get_or self.new k false
+            ≡ (get_or self.old k false && get_or other.now k false)) }
+        ensures less { IfOk result (λ changed. IsTrue changed
+            → sum_by counted self.new < sum_by counted self.old) }
+        ensures same { IfOk result (λ changed. IsFalse changed → self.new ≡ self.old) }
+    {
+        if is_within(&self.root, &other.root, self.width) {
+            return Ok(false);
+        }
+        self.root = both(alloc, &self.root, &other.root, self.width)?;
+        Ok(true)
     }
 
     /// Leaves the numbers that both sets have, and tells whether that is less.
-    #[inline(always)]
-    pub fn meet(&mut self, other: &BitSet) -> bool
-        ensures both { (k : ℕ) → get_or self.new k false
-            ≡ (get_or self.old k false && get_or other.now k false) }
-        ensures less { IsTrue result → sum_by counted self.new < sum_by counted self.old }
-        ensures same { IsFalse result → self.new ≡ self.old }
+    #[tactic(auto, using(crate::proofs::ListedLemmas::met_resized))]
+    pub fn meet(&mut self, alloc: Global, other: &NumberSet) -> Result<bool, AllocError>
+        ensures both { OnOk result ((k : ℕ) → get_or self.new k false
+            ≡ (get_or self.old k false && get_or other.now k false)) }
+        ensures less { IfOk result (λ changed. IsTrue changed
+            → sum_by counted self.new < sum_by counted self.old) }
+        ensures same { IfOk result (λ changed. IsFalse changed → self.new ≡ self.old) }
     {
-        if self.is_within(other) {
-            return false;
+        if self.len() != other.len() {
+            let fitting = other.resized(alloc, self.len())?;
+            return self.meet_same(alloc, &fitting);
         }
-        self.meet_each(other)
+        self.meet_same(alloc, other)
     }
 }

@@ -2,8 +2,8 @@
 
 ghost use Rattle.std.specs.Prelude.{◌≡◌};
 
+use crate::bits::{has_bit, ones_below, with_bit};
 use crate::numbers::Numbers;
-use crate::sets::{has_bit, with_bit};
 use std::marker::Model;
 
 /// A set of numbers below 64.
@@ -40,9 +40,10 @@ impl Numbers for Word {
 }
 
 impl Word {
-    ghost use Rattle.std.specs.Prelude.{◌≡◌, ◌≢◌, ◌+◌, ◌<◌, ◌≤◌, ◌&&◌, not, ℕ, true, false, IsTrue, IsFalse, get_or, sum_by};
+    ghost use Rattle.std.specs.Prelude.{◌≡◌, ◌≢◌, ◌+◌, ◌<◌, ◌≤◌, ◌&&◌, not, nat_lt, nat_le, ℕ, true, false, IsTrue, IsFalse, get_or, sum_by};
     ghost use Rattle.number_sets.specs.Bits.{has_bit};
     ghost use Rattle.number_sets.specs.Bits.{counted};
+    ghost use Rattle.number_sets.specs.Trees.{IsLast};
 
     /// The first six numbers.
     #[inline(always)]
@@ -52,6 +53,24 @@ impl Word {
         ensures high { (k : ℕ) → 6 ≤ k → get_or result k false ≡ false }
     {
         Word { bits: 63 }
+    }
+
+    /// No number.
+    #[inline(always)]
+    #[tactic(auto, using(crate::proofs::BitLemmas::none_set))]
+    pub fn none() -> Word
+        ensures { (k : ℕ) → get_or result k false ≡ false }
+    {
+        Word { bits: 0 }
+    }
+
+    /// Whether it has no number.
+    #[inline(always)]
+    #[tactic(auto, using(crate::proofs::BitLemmas::zero_set))]
+    pub fn is_none(&self) -> bool
+        ensures { IsTrue result → (k : ℕ) → get_or self.now k false ≡ false }
+    {
+        self.bits == 0
     }
 
     /// The same once more.
@@ -112,12 +131,50 @@ impl Word {
         }
     }
 
+    /// The same without the numbers from one on up to another.
+    #[inline(always)]
+    #[tactic(auto, using(crate::proofs::BitLemmas::range_out))]
+    pub fn without_range(&self, from: usize, to: usize) -> Word
+        ensures { (k : ℕ) → get_or result k false
+            ≡ (get_or self.now k false && not (nat_le from k && nat_lt k to)) }
+    {
+        Word {
+            bits: self.bits & (ones_below(from) | !ones_below(to)),
+        }
+    }
+
+    /// Its greatest number from one on up to another.
+    #[tactic(auto, using(crate::proofs::BitLemmas::top_small, crate::proofs::BitLemmas::last_none, crate::proofs::BitLemmas::last_some))]
+    pub fn last(&self, from: usize, to: usize) -> Option<usize>
+        ensures { IsLast (λ k. get_or self.now k false) from to result }
+    {
+        let kept = self.bits & ones_below(to) & !ones_below(from);
+        if kept == 0 {
+            return None;
+        }
+        Some(63 - kept.leading_zeros() as usize)
+    }
+
+    /// The numbers that both have.
+    #[inline(always)]
+    #[tactic(auto, using(crate::proofs::BitLemmas::met_word))]
+    pub fn both(&self, other: &Word) -> Word
+        ensures { (k : ℕ) → get_or result k false
+            ≡ (get_or self.now k false && get_or other.now k false) }
+    {
+        Word {
+            bits: self.bits & other.bits,
+        }
+    }
+
     /// Whether another has all its numbers.
     #[inline(always)]
-    #[tactic(auto, using(crate::proofs::BitLemmas::within_word_alone))]
+    #[tactic(auto, using(crate::proofs::BitLemmas::within_word_alone, crate::proofs::BitLemmas::beyond_word))]
     pub fn is_within(&self, other: &Word) -> bool
-        ensures { IsTrue result → (k : ℕ) → get_or self.now k false
+        ensures within { IsTrue result → (k : ℕ) → get_or self.now k false
             ≡ (get_or self.now k false && get_or other.now k false) }
+        ensures beyond { IsFalse result → (k : ℕ) × (get_or self.now k false ≡ true)
+            × (get_or other.now k false ≡ false) }
     {
         self.bits & other.bits == self.bits
     }
