@@ -35,13 +35,6 @@ carry_pays rules price graph old new todo waiting j out e h c =
         let m : price (row graph j) * (rules.weight c.state + 1) ≤ price (row graph j) * left rules (look old j) = mul-le-mul_left (price (row graph j)) u in
         omega arith
 
--- an item that waits no more is paid for
-pub pop_pays : {S : Type 0} (rules : Rules S) (price : List ℕ → ℕ) (graph : List (List ℕ)) (states : List (Option S)) (todo rest : List ℕ) (i : ℕ) → todo ≡ rest ++ i ∷ [] → owed rules price graph states todo ≡ owed rules price graph states rest + price (row graph i)
-pop_pays rules price graph states todo rest i e =
-    let d : sum_by (λ i. price (row graph i)) todo ≡ sum_by (λ i. price (row graph i)) (rest ++ i ∷ []) = ap (sum_by (λ i. price (row graph i))) e in
-    let s : sum_by (λ i. price (row graph i)) (rest ++ i ∷ []) ≡ sum_by (λ i. price (row graph i)) rest + sum_by (λ i. price (row graph i)) (i ∷ []) = sum_by-append (λ i. price (row graph i)) rest (i ∷ []) in
-    omega arith
-
 -- where no item has a state, all is owed
 pub charge_none : {S : Type 0} (rules : Rules S) (price : List ℕ → ℕ) (graph : List (List ℕ)) (states : List (Option S)) → length states ≡ length graph → ((k : ℕ) → look states k ≡ None) → charge rules price graph states ≡ (rules.limit + 1) * sum_by price graph
 charge_none rules price [] states e h = omega arith

@@ -2,3 +2,4 @@ pub mod CarriedLemmas
 pub mod SpreadLemmas
 pub mod ChargeLemmas
 pub mod EndLemmas
+pub mod FollowLemmas

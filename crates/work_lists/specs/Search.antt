@@ -53,3 +53,13 @@ charge rules price (edges ∷ graph) (s ∷ states) = price edges * left rules s
 -- what is owed for states, and for the items that wait
 abbrev pub owed : {S : Type 0} → Rules S → (List ℕ → ℕ) → List (List ℕ) → List (Option S) → List ℕ → ℕ
 owed rules price graph states todo = charge rules price graph states + sum_by (λ i. price (row graph i)) todo
+
+-- what waits, with an item that is worked off before all others, if there is one
+abbrev pub with_next : List ℕ → Option ℕ → List ℕ
+with_next todo None = todo
+with_next todo (Some i) = todo ++ i ∷ []
+
+-- 1 where none is
+abbrev pub ended : Option ℕ → ℕ
+ended None = 1
+ended (Some i) = 0

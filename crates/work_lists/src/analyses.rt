@@ -1,6 +1,6 @@
 //! Analyses.
 
-ghost use Rattle.std.specs.Prelude.{◌≡◌, ◌<◌, ◌≤◌, ◌&&◌, IfOk, IsTrue, IsFalse};
+ghost use Rattle.std.specs.Prelude.{◌≡◌, ◌<◌, ◌≤◌, ◌&&◌, IfOk, OnOk, IsTrue, IsFalse};
 ghost use Rattle.work_lists.specs.Exact.{Fact, Rules, carried_from};
 
 use std::alloc::{AllocError, Global};
@@ -41,10 +41,15 @@ pub trait Analysis {
             ≡ ((rules self.now).holds state.now f && (rules self.now).holds from.now f) };
 
     /// Leaves what both states have, and tells whether that is less.
-    fn meet(&self, into: &mut Self::State, from: &Self::State) -> bool
-        ensures holds { (f : Fact) → (rules self.now).holds into.new f
-            ≡ ((rules self.now).holds into.old f && (rules self.now).holds from.now f) }
-        ensures less { IsTrue result
-            → (rules self.now).weight into.new < (rules self.now).weight into.old }
-        ensures same { IsFalse result → into.new ≡ into.old };
+    fn meet(
+        &self,
+        alloc: Global,
+        into: &mut Self::State,
+        from: &Self::State,
+    ) -> Result<bool, AllocError>
+        ensures holds { OnOk result ((f : Fact) → (rules self.now).holds into.new f
+            ≡ ((rules self.now).holds into.old f && (rules self.now).holds from.now f)) }
+        ensures less { IfOk result (λ changed. IsTrue changed
+            → (rules self.now).weight into.new < (rules self.now).weight into.old) }
+        ensures same { IfOk result (λ changed. IsFalse changed → into.new ≡ into.old) };
 }

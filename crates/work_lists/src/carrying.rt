@@ -63,7 +63,7 @@ fn carry_again<A: Analysis>(
             todo.push(j)?;
         }
         Some(mut state) => {
-            let changed = analysis.meet(&mut state, out);
+            let changed = analysis.meet(alloc, &mut state, out)?;
             states[j] = Some(state);
             if changed {
                 todo.push(j)?;
@@ -75,7 +75,7 @@ fn carry_again<A: Analysis>(
 
 /// Carries a state into item j, which may have one, and waits then if anything changed there.
 #[inline(never)]
-fn carry_there<A: Analysis>(
+pub(crate) fn carry_there<A: Analysis>(
     alloc: Global,
     analysis: &A,
     states: &mut Vec<Option<A::State>>,

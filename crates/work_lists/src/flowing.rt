@@ -6,8 +6,8 @@ ghost use Rattle.work_lists.specs.Exact.{AreExact};
 
 use crate::analyses::Analysis;
 use crate::carrying::carry;
+use crate::following::follow;
 use crate::graphs::Edges;
-use crate::spreading::spread_all;
 use asm_base::Steps;
 use std::alloc::{AllocError, Global};
 use std::sync::ledger::Ledger;
@@ -59,22 +59,7 @@ pub fn flow<G: Edges, A: Analysis, L: Ledger>(
     steps.tick();
     carry(alloc, analysis, &mut states, &mut todo, 0, &first)?;
     while let Some(i) = todo.pop() {
-        match &states[i] {
-            None => {}
-            Some(before) => {
-                let out = analysis.after(alloc, i, before)?;
-                spread_all(
-                    alloc,
-                    graph,
-                    analysis,
-                    &mut states,
-                    &mut todo,
-                    i,
-                    &out,
-                    steps,
-                )?;
-            }
-        }
+        follow(alloc, graph, analysis, &mut states, &mut todo, i, steps)?;
     }
     Ok(states)
 }

@@ -4,6 +4,7 @@
 mod analyses;
 mod carrying;
 mod flowing;
+mod following;
 mod graphs;
 mod spreading;
 

@@ -50,7 +50,7 @@ fn spread<G: Edges, A: Analysis, L: Ledger>(
 
 /// Carries the state after item i over each of its edges.
 #[inline(never)]
-fn spread_each<G: Edges, A: Analysis, L: Ledger>(
+pub(crate) fn spread_each<G: Edges, A: Analysis, L: Ledger>(
     alloc: Global,
     graph: &G,
     analysis: &A,
@@ -88,38 +88,4 @@ fn spread_each<G: Edges, A: Analysis, L: Ledger>(
         out,
         steps,
     )
-}
-
-/// The same, at once where it has one edge.
-#[inline(always)]
-pub(crate) fn spread_all<G: Edges, A: Analysis, L: Ledger>(
-    alloc: Global,
-    graph: &G,
-    analysis: &A,
-    states: &mut Vec<Option<A::State>>,
-    todo: &mut Vec<usize>,
-    i: usize,
-    out: &A::State,
-    steps: &mut Steps<L>,
-) -> Result<(), AllocError>
-    requires fits { IsInside (G.rows graph.now) }
-    requires place { i < length (G.rows graph.now) }
-    requires weight { (A.rules analysis.now).weight out.now ≤ (A.rules analysis.now).limit }
-    requires begun { Spreading (A.rules analysis.now) (G.rows graph.now) states.old.items
-        todo.old.items i out.now 0 }
-    ensures searching { IfOk result (λ _. Searching (A.rules analysis.now) (G.rows graph.now)
-        states.new.items todo.new.items) }
-    ensures paid { IfOk result (λ _. steps.new
-        + owed (A.rules analysis.now) length (G.rows graph.now) states.new.items todo.new.items
-        ≤ steps.old
-        + owed (A.rules analysis.now) length (G.rows graph.now) states.old.items todo.old.items
-        + length (row (G.rows graph.now) i)) }
-    ensures fewer { IfOk result (λ _.
-        owed (A.rules analysis.now) (λ _. 1) (G.rows graph.now) states.new.items todo.new.items
-        ≤ owed (A.rules analysis.now) (λ _. 1) (G.rows graph.now) states.old.items todo.old.items) }
-{
-    match graph.only(i) {
-        Some(j) => spread(alloc, graph, analysis, states, todo, i, &[j], out, steps),
-        None => spread_each(alloc, graph, analysis, states, todo, i, out, steps),
-    }
 }

@@ -1,10 +1,8 @@
-use Rattle.std.proofs.Common.{◌≡◌, ◌<◌, ◌+◌, ◌*◌, ℕ, length, None, refl, sym, subst, ◌∙◌, arith, [], ◌∷◌, List}
-use Rattle.std.proofs.lemmas.List.{get_or_read}
+use Rattle.std.proofs.Common.{◌≡◌, ◌<◌, ◌+◌, ◌*◌, ℕ, length, refl, ap, subst, arith, [], ◌∷◌, ◌++◌, List}
 use Rattle.work_lists.specs.Graphs.{edges}
-use Rattle.work_lists.specs.Search.{charge, Carried}
-use Rattle.work_lists.proofs.SpreadLemmas.{spread_begins}
-use Rattle.work_lists.proofs.ChargeLemmas.{carry_pays, pop_pays, charge_none}
-use Rattle.work_lists.proofs.EndLemmas.{search_begins, search_ends, passed_over, waiting_inside}
+use Rattle.work_lists.specs.Search.{charge, owed, Carried, Searching}
+use Rattle.work_lists.proofs.ChargeLemmas.{carry_pays, charge_none}
+use Rattle.work_lists.proofs.EndLemmas.{search_begins, search_ends}
 use Rattle.work_lists.proofs.flowing.flow.Goals as goal
 
 pub carry-requires-clause-place : goal.carry-requires-clause-place
@@ -31,50 +29,20 @@ empty_list : (xs : List ℕ) → length xs ≡ 0 → xs ≡ []
 empty_list [] h = refl
 empty_list (x ∷ xs) h = absurd (omega arith)
 
-pub index-requires : goal.index-requires
-index-requires g c =
-    let i = c.loop-i.invariant.searching in
-    let w = waiting_inside (g.A.Analysis.rules c.args.analysis.now) (g.G.Edges.rows c.args.graph.now) c.loop-i.states.items c.loop-i.todo.items c.pop.new.self.items c.in-Some.i i c.in-Some.ensures.items in
-    let l = i.long in let k = c.loop-i.states.ok.0 in
-    omega arith
-
-pub spread_all-requires-clause-place : goal.spread_all-requires-clause-place
-spread_all-requires-clause-place g c =
-    waiting_inside (g.A.Analysis.rules c.args.analysis.now) (g.G.Edges.rows c.args.graph.now) c.loop-i.states.items c.loop-i.todo.items c.pop.new.self.items c.in-Some.i c.loop-i.invariant.searching c.in-Some.ensures.items
-
-pub spread_all-requires-clause-begun : goal.spread_all-requires-clause-begun
-spread_all-requires-clause-begun g c =
-    let r = g.A.Analysis.rules c.args.analysis.now in
-    let n = g.G.Edges.rows c.args.graph.now in
-    let i = c.loop-i.invariant.searching in
-    let w = waiting_inside r n c.loop-i.states.items c.loop-i.todo.items c.pop.new.self.items c.in-Some.i i c.in-Some.ensures.items in
-    let short : c.in-Some.i < length c.loop-i.states.items = let l = i.long in omega arith in
-    let there = get_or_read c.loop-i.states.items c.in-Some.i c.index.result.now short c.index.ensures None in
-    spread_begins r n c.loop-i.states.items c.loop-i.todo.items c.pop.new.self.items c.in-Some.i c.in-Some-index.before c.in_ok-out-in-Some-index.out i c.in-Some.ensures.items (sym there ∙ c.in-Some-index.is) c.in_ok-out-in-Some-index.ensures.holds
+pub follow-requires-clause-waits : goal.follow-requires-clause-waits
+follow-requires-clause-waits g c =
+    let P : List ℕ → Type 0 = λ w. Searching (g.A.Analysis.rules c.args.analysis.now) (g.G.Edges.rows c.args.graph.now) c.loop-i.states.items w in
+    subst P c.in-Some.ensures.items c.loop-i.invariant.searching
 
 pub loop-i-preserved : goal.loop-i-preserved
 loop-i-preserved g c =
     let r = g.A.Analysis.rules c.args.analysis.now in
     let n = g.G.Edges.rows c.args.graph.now in
-    let popped = pop_pays r (length) n c.loop-i.states.items c.loop-i.todo.items c.pop.new.self.items c.in-Some.i c.in-Some.ensures.items in
+    let same : owed r length n c.loop-i.states.items c.loop-i.todo.items ≡ owed r length n c.loop-i.states.items (c.pop.new.self.items ++ c.in-Some.i ∷ []) = ap (owed r length n c.loop-i.states.items) c.in-Some.ensures.items in
     record {
-      searching = c.in_ok-spread_all-in-Some-index.ensures.searching;
-      paid = let a = c.loop-i.invariant.paid in let b = c.in_ok-spread_all-in-Some-index.ensures.paid in omega arith;
+      searching = c.in_ok-follow.ensures.searching;
+      paid = let a = c.loop-i.invariant.paid in let b = c.in_ok-follow.ensures.paid in omega arith;
     }
 
 pub returns-clause-exact : goal.returns-clause-exact
 returns-clause-exact g c = search_ends (g.A.Analysis.rules c.args.analysis.now) (g.G.Edges.rows c.args.graph.now) c.loop-i.states.items c.loop-i.todo.items (empty_list c.loop-i.todo.items (let x = c.in_default.ensures.cases in let k = c.loop-i.todo.ok.0 in omega arith)) c.loop-i.invariant.searching
-
-pub loop-i-preserved-in-None : goal.loop-i-preserved-in-None
-loop-i-preserved-in-None g c =
-    let r = g.A.Analysis.rules c.args.analysis.now in
-    let n = g.G.Edges.rows c.args.graph.now in
-    let i = c.loop-i.invariant.searching in
-    let w = waiting_inside r n c.loop-i.states.items c.loop-i.todo.items c.pop.new.self.items c.in-Some.i i c.in-Some.ensures.items in
-    let short : c.in-Some.i < length c.loop-i.states.items = let l = i.long in omega arith in
-    let there = get_or_read c.loop-i.states.items c.in-Some.i c.index.result.now short c.index.ensures None in
-    let popped = pop_pays r (length) n c.loop-i.states.items c.loop-i.todo.items c.pop.new.self.items c.in-Some.i c.in-Some.ensures.items in
-    record {
-      searching = passed_over r n c.loop-i.states.items c.loop-i.todo.items c.pop.new.self.items c.in-Some.i i c.in-Some.ensures.items (sym there ∙ c.in-None.is);
-      paid = let a = c.loop-i.invariant.paid in omega arith;
-    }
