@@ -229,7 +229,12 @@ impl<'a> Analysis for Tracing<'a> {
         loses_none(state, from)
     }
 
-    fn meet(&self, into: &mut [Option<Distance>; 7], from: &[Option<Distance>; 7]) -> bool {
-        meet_all(into, from)
+    fn meet(
+        &self,
+        _alloc: Global,
+        into: &mut [Option<Distance>; 7],
+        from: &[Option<Distance>; 7],
+    ) -> Result<bool, AllocError> {
+        Ok(meet_all(into, from))
     }
 }

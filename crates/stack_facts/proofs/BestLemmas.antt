@@ -98,7 +98,7 @@ counts_best slots bits r k found b mine there = record {
         by_test false g = ap (λ x. below n (slot_at slots x).distance) same ∙ g
 
 -- a slot that stands is in the table
-found_fact : (slots : List Slot) (bits : List Bool) (n r : ℕ) → holds_in slots bits (slot n r) ≡ true → place_of slots n r < length slots
+pub found_fact : (slots : List Slot) (bits : List Bool) (n r : ℕ) → holds_in slots bits (slot n r) ≡ true → place_of slots n r < length slots
 found_fact slots bits n r h = by_test (nat_lt (place_of slots n r) (length slots)) refl
   where
     by_test : (b : Bool) → nat_lt (place_of slots n r) (length slots) ≡ b → place_of slots n r < length slots

@@ -78,6 +78,21 @@ saved_six (Some s) known n r h = by_fixed (fixed known s.base s.displacement) h
     by_fixed None e = cc
     by_fixed (Some a) e = by_place a (is_saved s.register && (s.size == 8 && is_slot_place a)) refl e
 
+-- and lies at a place of slots
+pub saved_place : (stores : Option FollowedStore) (known : Distances) (n r : ℕ) → is_at (saved_by stores known) n r ≡ true → is_slot_place n ≡ true
+saved_place None known n r h = cc
+saved_place (Some s) known n r h = by_fixed (fixed known s.base s.displacement) h
+  where
+    by_place : (a : ℕ) (c : Bool) → (is_saved s.register && (s.size == 8 && is_slot_place a)) ≡ c → is_at (cond c (Some (record { distance = a; register = s.register })) None) n r ≡ true → is_slot_place n ≡ true
+    by_place a false t e = cc
+    by_place a true t e =
+        let at : a ≡ n = same_number a n (both (a == n) (s.register == r) e).0 in
+        ap is_slot_place (sym at) ∙ (both (s.size == 8) (is_slot_place a) (both (is_saved s.register) (s.size == 8 && is_slot_place a) t).1).1
+
+    by_fixed : (o : Option ℕ) → is_at (saved_at s.register s.size o) n r ≡ true → is_slot_place n ≡ true
+    by_fixed None e = cc
+    by_fixed (Some a) e = by_place a (is_saved s.register && (s.size == 8 && is_slot_place a)) refl e
+
 -- no item both stores and loads
 one_access : (own : Role) (e : Effect) → (stores_by own e ≡ None) ⊎ (loads_by own e ≡ None)
 one_access role.Pop e = inl refl

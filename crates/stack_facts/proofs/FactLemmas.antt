@@ -28,7 +28,7 @@ wrong : {A : Type 0} → true ≡ false → A
 wrong h = cc
 
 -- no slot of another register is in the table
-not_there : (slots : List Slot) (n r : ℕ) → IsPlain slots → is_saved r ≡ false → nat_lt (place_of slots n r) (length slots) ≡ false
+pub not_there : (slots : List Slot) (n r : ℕ) → IsPlain slots → is_saved r ≡ false → nat_lt (place_of slots n r) (length slots) ≡ false
 not_there slots n r plain other = by_test (nat_lt (place_of slots n r) (length slots)) refl
   where
     by_test : (b : Bool) → nat_lt (place_of slots n r) (length slots) ≡ b → b ≡ false

@@ -7,3 +7,6 @@ pub mod FactLemmas
 pub mod QuietLemmas
 pub mod BestLemmas
 pub mod PassLemmas
+pub mod RankLemmas
+pub mod RangeLemmas
+pub mod LastLemmas

@@ -37,7 +37,7 @@ stands_there slots bits k plain h =
     by_test false e = absurd (let far : length slots ≤ k = grind (arith, nat_tests) in omega arith)
 
 -- a slot that is there keeps its place
-pushed_place : (slots : List Slot) (s : Slot) (n r k : ℕ) → place_of slots n r ≡ k → k < length slots → place_of (slots ++ s ∷ []) n r ≡ k
+pub pushed_place : (slots : List Slot) (s : Slot) (n r k : ℕ) → place_of slots n r ≡ k → k < length slots → place_of (slots ++ s ∷ []) n r ≡ k
 pushed_place slots s n r k e h =
     position_or_len_push (is_slot n r) slots s ∙ by_test (place_of slots n r == length slots) refl
   where
@@ -59,15 +59,15 @@ pushed_own slots s e =
     by_test false t = absurd (grind (arith, nat_tests))
 
 -- slots that were there stay
-at_old : (slots : List Slot) (s : Slot) (k : ℕ) → k < length slots → slot_at (slots ++ s ∷ []) k ≡ slot_at slots k
+pub at_old : (slots : List Slot) (s : Slot) (k : ℕ) → k < length slots → slot_at (slots ++ s ∷ []) k ≡ slot_at slots k
 at_old slots s k h = get_or_append_left slots (s ∷ []) no_slot k h
 
 -- the slot that was put last
-at_new : (slots : List Slot) (s : Slot) → slot_at (slots ++ s ∷ []) (length slots) ≡ s
+pub at_new : (slots : List Slot) (s : Slot) → slot_at (slots ++ s ∷ []) (length slots) ≡ s
 at_new slots s = get_or-append_seam slots s [] no_slot
 
 -- there is one more
-pushed_length : (slots : List Slot) (s : Slot) → length (slots ++ s ∷ []) ≡ length slots + 1
+pub pushed_length : (slots : List Slot) (s : Slot) → length (slots ++ s ∷ []) ≡ length slots + 1
 pushed_length slots s = length-append slots (s ∷ [])
 
 -- each stands once still

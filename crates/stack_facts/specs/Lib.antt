@@ -2,6 +2,7 @@
 pub mod Places
 pub mod Facts
 pub mod Sets
+pub mod Ranks
 pub mod Passing
 pub mod Sources
 pub mod States

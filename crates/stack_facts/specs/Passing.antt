@@ -48,3 +48,7 @@ pub record IsFreed (slots : List Slot) (loaded : Option Slot) (before word out :
   pub each : (k : ℕ) → k < length slots → get_or out (6 + k) false
       ≡ (get_or word (6 + k) false && not (is_here loaded slots k && holds_in slots before (fact_at slots k)))
   pub high : (k : ℕ) → length slots ≤ k → get_or out (6 + k) false ≡ get_or word (6 + k) false
+
+-- a set has the entry values of another
+abbrev pub KeepsEntries : List Bool → List Bool → Type 0
+KeepsEntries word out = (k : ℕ) → k < 6 → get_or out k false ≡ get_or word k false

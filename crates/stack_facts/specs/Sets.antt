@@ -1,8 +1,8 @@
 -- Sets of facts, as bits: the six entry values, and then the slots of a table by their places in it.
-use Rattle.std.specs.Prelude.{◌≡◌, ◌+◌, ◌-◌, ◌<◌, ◌≤◌, ◌==◌, ◌&&◌, ℕ, zero, suc, nat_lt, Bool, true, false, Option, None, Some, is_some, List, [], ◌∷◌, ◌++◌, length, get_or, slice_get, if◌then◌else◌}
+use Rattle.std.specs.Prelude.{◌≡◌, ◌+◌, ◌-◌, ◌<◌, ◌≤◌, ◌==◌, ◌&&◌, ℕ, nat_lt, Bool, true, false, Option, None, Some, is_some, List, length, get_or, slice_get, if◌then◌else◌}
 use Rattle.std.specs.List.{position_or_len}
 use Rattle.code_functions.specs.declared.items.CodeItem.{CodeItem}
-use Rattle.stack_depths.specs.Distances.{Distances, has_bit}
+use Rattle.stack_depths.specs.Distances.{Distances}
 use Rattle.stack_facts.specs.declared.values.Slot.{Slot}
 use Rattle.stack_facts.specs.Places.{below, is_saved}
 use Rattle.stack_facts.specs.Facts.{Fact, entry, slot, saved_over, is_at}

@@ -8,8 +8,9 @@ ghost use Rattle.stack_facts.specs.Sets.{place_of, is_slot, IsPlain, IsAdded, Ar
 use crate::values::Slot;
 use std::alloc::AllocError;
 
+/// Whether a slot is this one.
 #[inline(always)]
-fn is_slot(slot: &Slot, distance: u64, register: u8) -> bool
+pub(crate) fn is_slot(slot: &Slot, distance: u64, register: u8) -> bool
     ensures { result ≡ is_slot distance register slot.now }
 {
     slot.distance == distance && slot.register == register

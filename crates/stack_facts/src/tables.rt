@@ -1,23 +1,26 @@
 //! The facts at all items.
 
-ghost use Rattle.std.specs.Prelude.{◌≡◌, ◌<◌, ◌≤◌, ◌+◌, ◌*◌, IfOk, length};
+ghost use Rattle.std.specs.Prelude.{◌≡◌, ◌<◌, ◌≤◌, ◌+◌, ◌*◌, false, IfOk, length};
 ghost use Rattle.stack_depths.specs.Distances.{edges};
 ghost use Rattle.stack_depths.specs.States.{distances_in};
 ghost use Rattle.stack_facts.specs.Facts.{AreFacts, saves};
 ghost use Rattle.stack_facts.specs.Sets.{IsPlain, IsTable};
+ghost use Rattle.stack_facts.specs.Ranks.{IsRanked};
 ghost use Rattle.stack_facts.specs.States.{facts_in};
 
 use crate::changes::change_of;
 use crate::finding::{each_highest, no_slots};
 use crate::gathering::gather;
-use crate::passing::{entries_alone, entry_after, greatest, has_entry, item_after, same_of};
+use crate::passing::{entry_after, greatest, has_entry};
+use crate::set_finding::{each_greatest, greatest_in};
+use crate::set_passing::{entries_alone, same_of, set_after};
 use crate::values::Slot;
 use crate::word_passing::word_after;
 use asm_base::{NoMemory, Steps};
 use code_functions::CodeItem;
 use flow_graph::Graph;
 use insn_effects::Effect;
-use number_sets::{BitSet, Word};
+use number_sets::{NumberSet, Word};
 use stack_depths::{DepthTable, Ways, walks_are_listed};
 use std::alloc::{AllocError, Global};
 use std::marker::Model;
@@ -31,48 +34,59 @@ struct Passing<'a> {
     depths: &'a DepthTable,
     slots: &'a [Slot],
     ghost table: { IsTable items.now (distances_in depths.now) slots.now },
+    ghost ranked: { IsRanked slots.now },
 }
 
 impl<'a> Analysis for Passing<'a> {
     ghost use Rattle.stack_depths.specs.States.{distances_in};
     ghost use Rattle.stack_facts.specs.States.{fact_rules};
 
-    type State = BitSet;
+    type State = NumberSet;
 
     ghost rules = { λ passing.
         fact_rules passing.items.now (distances_in passing.depths.now) passing.slots.now };
 
-    fn enter(&self, alloc: Global) -> Result<BitSet, AllocError> {
+    fn enter(&self, alloc: Global) -> Result<NumberSet, AllocError> {
         let out = entries_alone(alloc, self.slots.len())?;
         Ok(out)
     }
 
     #[inline(always)]
-    fn after(&self, alloc: Global, item: usize, before: &BitSet) -> Result<BitSet, AllocError> {
+    fn after(
+        &self,
+        alloc: Global,
+        item: usize,
+        before: &NumberSet,
+    ) -> Result<NumberSet, AllocError> {
         match self.items.get(item) {
             None => {
                 let out = same_of(alloc, self.slots, before)?;
                 Ok(out)
             }
             Some(found) => {
-                let out = item_after(alloc, self.slots, self.depths, item, &found.effect, before)?;
+                let out = set_after(alloc, self.slots, self.depths, item, &found.effect, before)?;
                 Ok(out)
             }
         }
     }
 
     #[inline(always)]
-    fn copy(&self, alloc: Global, from: &BitSet) -> Result<BitSet, AllocError> {
-        from.copy(alloc)
+    fn copy(&self, _alloc: Global, from: &NumberSet) -> Result<NumberSet, AllocError> {
+        from.copy()
     }
 
     #[inline(always)]
-    fn keeps(&self, state: &BitSet, from: &BitSet) -> bool {
+    fn keeps(&self, state: &NumberSet, from: &NumberSet) -> bool {
         state.is_within(from)
     }
 
-    fn meet(&self, into: &mut BitSet, from: &BitSet) -> bool {
-        into.meet(from)
+    fn meet(
+        &self,
+        alloc: Global,
+        into: &mut NumberSet,
+        from: &NumberSet,
+    ) -> Result<bool, AllocError> {
+        into.meet(alloc, from)
     }
 }
 
@@ -117,8 +131,8 @@ impl<'a> Analysis for WordPassing<'a> {
         state.is_within(from)
     }
 
-    fn meet(&self, into: &mut Word, from: &Word) -> bool {
-        into.meet(from)
+    fn meet(&self, _alloc: Global, into: &mut Word, from: &Word) -> Result<bool, AllocError> {
+        Ok(into.meet(from))
     }
 }
 
@@ -128,8 +142,9 @@ pub struct FactTable {
     slots: Vec<Slot>,
     by_words: bool,
     words: Vec<Option<Word>>,
-    sets: Vec<Option<BitSet>>,
+    sets: Vec<Option<NumberSet>>,
     ghost plain: { IsPlain slots.items },
+    ghost ranked: { by_words ≡ false → IsRanked slots.items },
 }
 
 impl Model for FactTable {
@@ -231,7 +246,7 @@ impl FactTable {
             }
         } else {
             match self.sets.get(item) {
-                Some(Some(bits)) => each_highest(&self.slots, bits),
+                Some(Some(bits)) => each_greatest(&self.slots, bits),
                 _ => no_slots(),
             }
         }
@@ -249,7 +264,7 @@ impl FactTable {
             }
         } else {
             match self.sets.get(item) {
-                Some(Some(bits)) => greatest(&self.slots, bits, register),
+                Some(Some(bits)) => greatest_in(&self.slots, bits, register),
                 _ => None,
             }
         }
@@ -264,8 +279,9 @@ fn sets<L: Ledger>(
     depths: &DepthTable,
     slots: &[Slot],
     steps: &mut Steps<L>,
-) -> Result<Vec<Option<BitSet>>, AllocError>
+) -> Result<Vec<Option<NumberSet>>, AllocError>
     requires table { IsTable items.now (distances_in depths.now) slots.now }
+    requires ranked { IsRanked slots.now }
     ensures facts { IfOk result (λ states.
         AreFacts graph.now items.now (distances_in depths.now)
         (facts_in (slots.now, states.items))) }

@@ -1,18 +1,7 @@
-use Rattle.std.proofs.Common.{◌≡◌, slice_get, sym, ap, ◌∙◌}
-use Rattle.std.proofs.lemmas.Option.{slice_get-get_or}
-use Rattle.stack_facts.specs.Facts.{saved_over}
 use Rattle.stack_depths.specs.States.{distances_in}
-use Rattle.stack_facts.proofs.GatherLemmas.{all_saved, few_saved}
+use Rattle.stack_facts.proofs.GatherLemmas.{ranked_table}
 use Rattle.stack_facts.proofs.gathering.gather.Goals as goal
 
-pub loop-item-preserved : goal.loop-item-preserved
-loop-item-preserved c =
-    let i = c.loop-item.invariant in
-    let a = c.in_ok-add_found.ensures in
-    let known = distances_in c.args.depths.now in
-    let is : saved_over (slice_get c.args.items.now c.loop-item.item) (known c.loop-item.item) ≡ c.saved_by-found.result = ap (λ o. saved_over o (known c.loop-item.item)) (slice_get-get_or c.args.items.now c.loop-item.item _ c.loop-item-test.true) ∙ sym c.saved_by-found.ensures in
-    record {
-      plain = a.plain;
-      all = all_saved c.args.items.now known c.loop-item.item c.saved_by-found.result c.loop-item.slots.items c.add_found.new.slots.items is i.all a;
-      few = few_saved c.args.items.now known c.loop-item.item c.saved_by-found.result c.loop-item.slots.items c.add_found.new.slots.items is i.few a;
-    }
+pub returns-in_ok-slots-in-None-clause-table : goal.returns-in_ok-slots-in-None-clause-table
+returns-in_ok-slots-in-None-clause-table c =
+    ranked_table c.args.items.now (distances_in c.args.depths.now) c.in_ok-all-in-None.all.items c.in_ok-slots-in-None.slots.items c.in_ok-all-in-None.ensures.all c.in_ok-slots-in-None.ensures.all c.in_ok-slots-in-None.ensures.ranked

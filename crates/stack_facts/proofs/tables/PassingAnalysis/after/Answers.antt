@@ -23,11 +23,8 @@ pub returns-in_ok-out-in-None-clause-weight : goal.returns-in_ok-out-in-None-cla
 unfolding fact_rules
 returns-in_ok-out-in-None-clause-weight c = let w = counted_at_most c.in_ok-out-in-None.out in let l = c.in_ok-out-in-None.ensures.long in omega arith
 
-pub item_after-requires-clause-plain : goal.item_after-requires-clause-plain
-item_after-requires-clause-plain c = c.args.self.now.table.plain
-
-pub item_after-requires-clause-saved : goal.item_after-requires-clause-saved
-item_after-requires-clause-saved c =
+pub set_after-requires-clause-saved : goal.set_after-requires-clause-saved
+set_after-requires-clause-saved c =
     let s = c.args.self.now in
     let x = c.in-Some.ensures.lookup in
     let known = distances_in s.depths.now c.args.item in

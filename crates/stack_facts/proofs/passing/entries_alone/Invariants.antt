@@ -1,9 +1,0 @@
-use Rattle.std.proofs.Common.{◌≡◌, ◌+◌, ◌<◌, ◌≤◌, ℕ, true, false, get_or, length}
-use Rattle.stack_facts.proofs.passing.entries_alone.Given as goal
-
-abbrev pub invariant-loop-k : goal.invariant-loop-k
-invariant-loop-k l = record {
-  long : length l.out ≡ 6 + l.k;
-  low : (k : ℕ) → k < 6 → get_or l.out k false ≡ true;
-  high : (k : ℕ) → 6 ≤ k → get_or l.out k false ≡ false;
-}
