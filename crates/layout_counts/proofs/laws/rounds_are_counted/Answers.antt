@@ -4,5 +4,10 @@ use Rattle.layout_counts.proofs.laws.rounds_are_counted.Goals as goal
 
 pub returns : goal.returns
 returns c =
-    rounds_counted c.needs_stay_within_tops.ensures c.one_ranking.ensures c.one_round_more.ensures.none c.one_round_more.ensures.more c.rounds_are_few.ensures
-    c.rounds_reach_the_layout.ensures
+    rounds_counted (record {
+      one = c.one_ranking.ensures;
+      none = c.one_round_more.ensures.none;
+      more = c.one_round_more.ensures.more;
+      few = c.rounds_are_few.ensures;
+      reach = c.rounds_reach_the_layout.ensures;
+    }) c.needs_stay_within_tops.ensures
