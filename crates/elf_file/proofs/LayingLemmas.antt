@@ -117,14 +117,3 @@ numbers_before sections pushed last more all = front sections (subst (λ (ss : L
     front (s ∷ ss) fit =
         let rest = map section_view (ss ++ last ∷ []) in
         All-cons EntryFits (section_view s) (map section_view ss) (All-head EntryFits (section_view s) rest fit) (front ss (All-tail EntryFits (section_view s) rest fit))
-
--- the file has as many bytes as its header, its bodies and its header table
-pub file_small : (header pieces all : List ℕ) (table : Vec ℕ) (end count whole : ℕ) → header ≡ elf_header end count → end ≡ header_end + length pieces → all ≡ pieces ++ table.items
-    → whole ≡ end + length table.items → whole < 2 ^ 64 → length (header ++ all) < 2 ^ 64
-file_small header pieces all table end count whole begins ends put sum low =
-    let first = ap (λ (bytes : List ℕ). length bytes) begins in
-    let long : length (elf_header end count) ≡ header_end = header_length end count in
-    let second = ap (λ (bytes : List ℕ). length bytes) put in
-    let third : length (pieces ++ table.items) ≡ length pieces + length table.items = length-append pieces table.items in
-    let both : length (header ++ all) ≡ length header + length all = length-append header all in
-    omega arith

@@ -187,15 +187,30 @@ fn name_table(alloc: Global, sections: &[FileSection]) -> Result<NameTable, Allo
 pub struct ElfFile {
     pub(crate) header: [u8; 64],
     pub(crate) pieces: Vec<Piece>,
+    /// How many bytes it has.
+    size: u64,
 }
 
 impl Model for ElfFile {
-    ghost use Rattle.std.specs.Prelude.{ℕ, List, ◌++◌};
+    ghost use Rattle.std.specs.Prelude.{◌≡◌, ℕ, List, ◌++◌, length};
     ghost use Rattle.elf_file.specs.Pieces.{flat};
 
     ghost Value = { List ℕ };
 
     ghost view = { λ f. f.header ++ flat f.pieces.items };
+
+    ghost invariant = { λ f. f.size ≡ length (f.header ++ flat f.pieces.items) };
+}
+
+impl ElfFile {
+    ghost use Rattle.std.specs.Prelude.{◌≡◌, length};
+
+    /// How many bytes the file has.
+    pub fn len(&self) -> u64
+        ensures { result ≡ length self.now }
+    {
+        self.size
+    }
 }
 
 /// The file of these sections, and last the table of their names.
@@ -211,12 +226,13 @@ pub fn laid_file(alloc: Global, sections: Vec<FileSection>) -> Result<ElfFile, A
     let count = sections.len() + 1;
     let laid = lay_out(alloc, &names.offsets, sections)?;
     // No file has 2^64 bytes.
-    laid.end.checked_add(laid.headers.len()).ok_or(AllocError)?;
+    let size = laid.end.checked_add(laid.headers.len()).ok_or(AllocError)?;
     let header = elf_header(laid.end, count);
     let mut pieces = laid.pieces;
     pieces.put(Piece::Bytes(laid.headers))?;
     Ok(ElfFile {
         header,
         pieces: pieces.into_list(),
+        size: size as u64,
     })
 }

@@ -107,6 +107,13 @@ impl Object {
         made(alloc, at)
     }
 
+    /// How many bytes the file has.
+    pub fn len(&self) -> u64
+        ensures { result ≡ length self.now }
+    {
+        self.file.len()
+    }
+
     /// Writes the bytes to the file that the output makes: all of them, or a front of them where the output fails.
     /// It takes no memory.
     pub fn write_to<O: Output>(&self, obj: &mut O) -> Result<(), Failed>

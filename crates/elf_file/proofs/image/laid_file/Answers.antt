@@ -1,6 +1,6 @@
 -- The file by its parts.
 use Rattle.std.proofs.Common.{rules, ◌∙◌}
-use Rattle.elf_file.proofs.LayingLemmas.{file_made, file_small, numbers_before}
+use Rattle.elf_file.proofs.LayingLemmas.{file_made, numbers_before}
 use Rattle.elf_file.proofs.image.laid_file.Goals as goal
 
 pub returns-clause-file : goal.returns-clause-file
@@ -12,8 +12,3 @@ returns-clause-file c =
 
 pub returns-clause-numbers : goal.returns-clause-numbers
 returns-clause-numbers c = numbers_before c.args.sections.items c.push.new.self.items c.string_section.result c.in_ok-push.ensures.items c.in_ok-laid.ensures.numbers
-
-pub returns-clause-size : goal.returns-clause-size
-returns-clause-size c =
-    file_small c.elf_header-header.result c.in_ok-laid.laid.pieces _ c.in_ok-laid.laid.headers c.in_ok-laid.laid.end _ c.in_ok-ok_or.field-0 c.elf_header-header.ensures c.in_ok-laid.ensures.ends
-    (c.into_list.ensures ∙ c.in_ok-put.ensures) (search rules) (search rules)
