@@ -1,5 +1,5 @@
 -- Sections, laid out one behind the other.
-use Rattle.std.proofs.Common.{◌≡◌, ℕ, ◌+◌, ◌-◌, ◌*◌, ◌^◌, ◌<◌, ◌≤◌, All, List, [], ◌∷◌, ◌++◌, map, length, get_or, drop, refl, sym, ap, ◌∙◌, subst, arith, append_assoc, length-append}
+use Rattle.std.proofs.Common.{◌≡◌, ℕ, ◌+◌, ◌-◌, ◌*◌, ◌<◌, ◌≤◌, All, List, [], ◌∷◌, ◌++◌, map, length, get_or, drop, refl, sym, ap, ◌∙◌, subst, arith, append_assoc, length-append}
 use Rattle.std.proofs.lemmas.List.{drop_more, length-map}
 use Rattle.std.proofs.lemmas.List.Elements.{All-nil, All-cons, All-head, All-tail}
 use Rattle.std.specs.Global.{Vec}
@@ -13,7 +13,6 @@ use Rattle.elf_file.specs.Limits.{EntryFits}
 use Rattle.elf_file.specs.Sections.{SectionEntry, string_section}
 use Rattle.elf_file.specs.StringTable.{name_offsets, string_table_of}
 use Rattle.elf_file.specs.Views.{section_view}
-use Rattle.elf_file.proofs.FilePlaces.{header_length}
 
 -- zeros up to a multiple are a gap
 pub gap_put : (old new : List ℕ) (alignment at end : ℕ) → new ≡ old ++ repeated (end - at) (0 ∷ []) → end ≡ next_multiple alignment at → new ≡ old ++ gap alignment at
