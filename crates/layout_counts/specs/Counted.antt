@@ -44,16 +44,15 @@ near_jumps laid = sum_by (λ section. count_by is_near_jump section.items) laid
 abbrev pub is_settled : (List ℕ → List ℕ) → List ℕ → Bool
 is_settled need levels = bytes_eq (raised levels (need levels)) levels
 
--- how many rounds, of at most so many, raise a level before the first that raises none, where items have these levels
+-- how many rounds, of at most so many, raise a level before the first that raises none, from these levels of the items on
 abbrev pub rising_rounds : (List ℕ → List ℕ) → ℕ → List ℕ → ℕ
 rising_rounds need zero levels = 0
 rising_rounds need (suc most) levels = if is_settled need levels then 0 else 1 + rising_rounds need most (raised levels (need levels))
 
--- the number of the first round that raises no level of the rows, which are at their lowest levels before it all: that many raise one
--- at most as there are levels above the lowest
+-- how many rounds the rows take from their lowest levels on; at most as many raise a level as there are levels above the lowest
 abbrev pub rounds_for : List Row → ℕ
 rounds_for rows = 1 + rising_rounds (need rows) (sum (tops rows)) (lowest_levels rows)
 
--- the number of rounds of a layout: the first after which no level rises, counted from one
+-- the number of rounds of a layout, the last of which is the first that raises no level
 unfoldable pub rounds_of : SymbolMap → LooseSections → ℕ
 rounds_of map sections = rounds_for (rows_of map (planned map sections))
