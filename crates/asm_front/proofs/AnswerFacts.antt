@@ -18,10 +18,11 @@ use Rattle.asm_functions.specs.FollowedSource.{FollowedSource}
 use Rattle.asm_front.specs.Ending.{Flags, followed_end}
 use Rattle.asm_front.specs.declared.ending.NotedObject.{NotedObject}
 use Rattle.asm_front.specs.Assembly.{assembled, faulty, macro_fault, shown_files, ended_by}
-use Rattle.asm_front.specs.Answering.{AnswersSmall, AnswersSource, IsAnswered, IsAnswer, line_answer, TakesText}
+use Rattle.asm_front.specs.Sources.{file}
+use Rattle.asm_front.specs.Answering.{AnswersSmall, AnswersSource, IsAnswered, IsAnswer, line_answer}
 use Rattle.asm_front.specs.Synthesis.{Synthesis}
-use Rattle.asm_front.specs.Outcome.{HasAssemblyCause, KeepsCount, TakesSource, flags_of}
-use Rattle.asm_front.specs.declared.answers.Options.{Options}
+use Rattle.asm_front.specs.Outcome.{HasAssemblyCause, KeepsCount, TakesSource, TakesText, flags_asked}
+use Rattle.asm_front.specs.declared.answers.Asked.{Asked}
 use Rattle.asm_front.specs.declared.answers.Assembled.{Assembled}
 use Rattle.asm_front.specs.declared.answers.AsmFault.{AsmFault}
 use Rattle.asm_front.specs.declared.answers.AsmFault.TheVariants.{Source, Read, NoMemory}
@@ -126,7 +127,7 @@ same_fault at other shown files is = cc
 
 module _ (flags : Flags) (name : List ℕ) (files : List (List ℕ)) (placed : FollowedSource) where
   pub text_large : (expanded : Result (Unit {0}) (ExpandFault FaultAt)) (result : Result Assembled AsmFault) (before now : ℕ) → IsAnswer flags name files placed expanded result
-      → AnswersSmall expanded result → TakesTooLarge expanded before now → TakesSource result before now
+      → AnswersSmall expanded result → TakesTooLarge expanded before now → TakesSource (file name) result before now
   text_large expanded (Ok made) before now so small takes = tt
   text_large expanded (Err Read) before now so small takes = tt
   text_large expanded (Err NoMemory) before now so small takes = tt
@@ -146,26 +147,26 @@ module _ (flags : Flags) (name : List ℕ) (files : List (List ℕ)) (placed : F
 -- THE SAME WITH WHAT SYNTHESIS COMES TO
 
 -- with one outcome of synthesis at least it is the answer
-some_answer : (options : Options) (files : List (List ℕ)) (f : FollowedSource) (expanded : Result (Unit {0}) (ExpandFault FaultAt)) (result : Result Assembled AsmFault)
-    → AnswersSource options files f expanded result → (made : Synthesis) × IsAnswer (flags_of options made) (string_bytes options.file) files f expanded result
-some_answer options files f expanded (Ok answer) is = (is.0, is.2.answer)
-some_answer options files f expanded (Err (Source fault pos notes names)) is = (is.0, is.2.answer)
-some_answer options files f expanded (Err Read) is = (Ok [], (is (Ok [])).answer)
-some_answer options files f expanded (Err NoMemory) is = (Ok [], (is (Ok [])).answer)
+some_answer : (asked : Asked) (files : List (List ℕ)) (f : FollowedSource) (expanded : Result (Unit {0}) (ExpandFault FaultAt)) (result : Result Assembled AsmFault)
+    → AnswersSource asked files f expanded result → (made : Synthesis) × IsAnswer (flags_asked asked made) (string_bytes asked.file) files f expanded result
+some_answer asked files f expanded (Ok answer) is = (is.0, is.2.answer)
+some_answer asked files f expanded (Err (Source fault pos notes names)) is = (is.0, is.2.answer)
+some_answer asked files f expanded (Err Read) is = (Ok [], (is (Ok [])).answer)
+some_answer asked files f expanded (Err NoMemory) is = (Ok [], (is (Ok [])).answer)
 
 -- so many bytes were read
-pub source_taken : (options : Options) (files : List (List ℕ)) (f : FollowedSource) (expanded : Result (Unit {0}) (ExpandFault FaultAt)) (result : Result Assembled AsmFault) (before now : ℕ)
-    → AnswersSource options files f expanded result → TakesIncludes expanded files before now → 0 < length files → TakesText result before now
-source_taken options files f expanded result before now is takes some =
-    let one = some_answer options files f expanded result is in
-    text_taken (flags_of options one.0) (string_bytes options.file) files f expanded result before now one.1 takes some
+pub source_taken : (asked : Asked) (files : List (List ℕ)) (f : FollowedSource) (expanded : Result (Unit {0}) (ExpandFault FaultAt)) (result : Result Assembled AsmFault) (before now : ℕ)
+    → AnswersSource asked files f expanded result → TakesIncludes expanded files before now → 0 < length files → TakesText result before now
+source_taken asked files f expanded result before now is takes some =
+    let one = some_answer asked files f expanded result is in
+    text_taken (flags_asked asked one.0) (string_bytes asked.file) files f expanded result before now one.1 takes some
 
 -- and a file is called too large where more than the most was
-pub source_large : (options : Options) (files : List (List ℕ)) (f : FollowedSource) (expanded : Result (Unit {0}) (ExpandFault FaultAt)) (result : Result Assembled AsmFault) (before now : ℕ)
-    → AnswersSource options files f expanded result → AnswersSmall expanded result → TakesTooLarge expanded before now → TakesSource result before now
-source_large options files f expanded result before now is small takes =
-    let one = some_answer options files f expanded result is in
-    text_large (flags_of options one.0) (string_bytes options.file) files f expanded result before now one.1 small takes
+pub source_large : (asked : Asked) (files : List (List ℕ)) (f : FollowedSource) (expanded : Result (Unit {0}) (ExpandFault FaultAt)) (result : Result Assembled AsmFault) (before now : ℕ)
+    → AnswersSource asked files f expanded result → AnswersSmall expanded result → TakesTooLarge expanded before now → TakesSource (file (string_bytes asked.file)) result before now
+source_large asked files f expanded result before now is small takes =
+    let one = some_answer asked files f expanded result is in
+    text_large (flags_asked asked one.0) (string_bytes asked.file) files f expanded result before now one.1 small takes
 
 cause_by : (flags : Flags) (name : List ℕ) (files : List (List ℕ)) (f : FollowedSource) (expanded : Result (Unit {0}) (ExpandFault FaultAt)) (result : Result Assembled AsmFault) (before now : ℕ)
     → IsAnswer flags name files f expanded result → HasExpansionCause expanded before now → HasAssemblyCause result before now
@@ -192,11 +193,11 @@ cause_by flags name files f (Err expand.NoMemory) (Err Read) before now so cause
 cause_by flags name files f (Err expand.NoMemory) (Err NoMemory) before now so cause = cause
 
 -- the input failed where expansion found it so
-pub source_cause : (options : Options) (files : List (List ℕ)) (f : FollowedSource) (expanded : Result (Unit {0}) (ExpandFault FaultAt)) (result : Result Assembled AsmFault) (before now : ℕ)
-    → AnswersSource options files f expanded result → HasExpansionCause expanded before now → HasAssemblyCause result before now
-source_cause options files f expanded result before now is cause =
-    let one = some_answer options files f expanded result is in
-    cause_by (flags_of options one.0) (string_bytes options.file) files f expanded result before now one.1 cause
+pub source_cause : (asked : Asked) (files : List (List ℕ)) (f : FollowedSource) (expanded : Result (Unit {0}) (ExpandFault FaultAt)) (result : Result Assembled AsmFault) (before now : ℕ)
+    → AnswersSource asked files f expanded result → HasExpansionCause expanded before now → HasAssemblyCause result before now
+source_cause asked files f expanded result before now is cause =
+    let one = some_answer asked files f expanded result is in
+    cause_by (flags_asked asked one.0) (string_bytes asked.file) files f expanded result before now one.1 cause
 
 found_by : (flags : Flags) (name : List ℕ) (files : List (List ℕ)) (f : FollowedSource) (expanded : Result (Unit {0}) (ExpandFault FaultAt)) (result : Result Assembled AsmFault) (before now : ℕ)
     → IsAnswer flags name files f expanded result → KeepsMissing expanded before now → KeepsCount result before now
@@ -223,11 +224,11 @@ found_by flags name files f (Err expand.NoMemory) (Err Read) before now so keeps
 found_by flags name files f (Err expand.NoMemory) (Err NoMemory) before now so keeps = keeps
 
 -- and the count of starts of what has no contents stays where expansion kept it
-pub source_found : (options : Options) (files : List (List ℕ)) (f : FollowedSource) (expanded : Result (Unit {0}) (ExpandFault FaultAt)) (result : Result Assembled AsmFault) (before now : ℕ)
-    → AnswersSource options files f expanded result → KeepsMissing expanded before now → KeepsCount result before now
-source_found options files f expanded result before now is keeps =
-    let one = some_answer options files f expanded result is in
-    found_by (flags_of options one.0) (string_bytes options.file) files f expanded result before now one.1 keeps
+pub source_found : (asked : Asked) (files : List (List ℕ)) (f : FollowedSource) (expanded : Result (Unit {0}) (ExpandFault FaultAt)) (result : Result Assembled AsmFault) (before now : ℕ)
+    → AnswersSource asked files f expanded result → KeepsMissing expanded before now → KeepsCount result before now
+source_found asked files f expanded result before now is keeps =
+    let one = some_answer asked files f expanded result is in
+    found_by (flags_asked asked one.0) (string_bytes asked.file) files f expanded result before now one.1 keeps
 
 -- ANSWERS OF FAULTS
 

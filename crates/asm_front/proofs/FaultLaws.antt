@@ -1,11 +1,12 @@
 -- No step but the reading of the file calls a file too large.
-use Rattle.std.proofs.Common.{◌≡◌, ℕ, Bool, false, List, Option, None, Some, Result, Ok, Err, refl}
+use Rattle.std.proofs.Common.{◌≡◌, ℕ, Bool, false, List, Option, None, Some, Result, Ok, Err, length, refl}
 use Rattle.std.specs.Result.{IfErr}
 use Rattle.std.proofs.lemmas.Result.{IfErr-at_err}
 use Rattle.asm_base.specs.declared.notes.Noted.{Noted}
 use Rattle.asm_relax.specs.Settling.{layout_of}
 use Rattle.asm_place.specs.Faults.{is_file_too_large}
 use Rattle.asm_base.specs.declared.positions.Pos.{Pos}
+use Rattle.cfi_directives.specs.declared.frames.Frame.{Frame}
 use Rattle.cfi_directives.specs.Procedures.{Procedures, frames_of}
 use Rattle.eh_frame.specs.Pieces.{Tables}
 use Rattle.asm_base.specs.declared.causes.FragCause.{FragCause}
@@ -15,7 +16,8 @@ use Rattle.asm_frags.specs.Writing.{LooseSection}
 use Rattle.asm_functions.specs.FollowedSource.{FollowedSource, notes_of}
 use Rattle.asm_place.specs.declared.place_faults.FaultAt.{FaultAt}
 use Rattle.asm_front.specs.Synthesis.{Synthesis}
-use Rattle.asm_front.specs.Ending.{Flags, noted, laid_end, unclosed, first_line, with_frames, framed_end, unless_open, finished, procedures_by, unless_fault, followed_end}
+use Rattle.asm_front.specs.Ending.{Flags, counts_of, noted, laid_end, unclosed, with_frames, framed_end, unless_open, finished, procedures_by, unless_fault, followed_end}
+use Rattle.asm_front.specs.declared.answers.Counts.{Counts}
 use Rattle.asm_front.specs.declared.ending.NotedObject.{NotedObject}
 use Rattle.asm_front.specs.declared.ending.Ended.{Ended}
 
@@ -33,25 +35,27 @@ no_fault x = record { holds = tt }
 a_fault : {A E : Type 0} {P : E → Type 0} (fault : E) → P fault → FaultIs {A = A} P (Err fault)
 a_fault fault is = record { holds = is }
 
-noted_fine : (notes : List Noted) (answer : Result (List ℕ) Ended) → NotTooLarge (noted notes answer)
-noted_fine notes (Ok object) = no_fault _
-noted_fine notes (Err ended) = a_fault _ refl
+noted_fine : (counts : Counts) (notes : List Noted) (answer : Result (List ℕ) Ended) → NotTooLarge (noted counts notes answer)
+noted_fine counts notes (Ok object) = no_fault _
+noted_fine counts notes (Err ended) = a_fault _ refl
 
-framed_fine : (fatal : Bool) (table : Table) (pos : Pos) (notes : List Noted) (answer : Result Tables FragCause) → NotTooLarge (framed_end fatal table pos notes answer)
-framed_fine fatal table pos notes (Ok tables) =
-    noted_fine notes (laid_end fatal (with_map table tables.symbols) notes (layout_of tables.symbols tables.sections))
-framed_fine fatal table pos notes (Err BadSection) = a_fault _ refl
+framed_fine : (fatal : Bool) (functions : ℕ) (table : Table) (frames : List Frame) (notes : List Noted) (answer : Result Tables FragCause)
+    → NotTooLarge (framed_end fatal functions table frames notes answer)
+framed_fine fatal functions table frames notes (Ok tables) =
+    noted_fine (counts_of functions (length frames) tables.symbols tables.sections) notes
+    (laid_end fatal (with_map table tables.symbols) notes (layout_of tables.symbols tables.sections))
+framed_fine fatal functions table frames notes (Err BadSection) = a_fault _ refl
 
 closed_fine : (place : Option Pos) (notes : List Noted) (answer : Result NotedObject FaultAt) → NotTooLarge answer → NotTooLarge (unless_open place notes answer)
 closed_fine None notes answer fine = fine
 closed_fine (Some pos) notes answer fine = a_fault _ refl
 
-finished_fine : (fatal : Bool) (sections : List LooseSection) (table : Table) (procedures : Procedures) (notes : List Noted)
-    → NotTooLarge (finished fatal sections table procedures notes)
+finished_fine : (fatal : Bool) (functions : ℕ) (sections : List LooseSection) (table : Table) (procedures : Procedures) (notes : List Noted)
+    → NotTooLarge (finished fatal functions sections table procedures notes)
 unfolding finished
-finished_fine fatal sections table procedures notes =
+finished_fine fatal functions sections table procedures notes =
     closed_fine (unclosed procedures) notes _
-    (framed_fine fatal table (first_line (frames_of procedures)) notes (with_frames procedures table.symbols sections))
+    (framed_fine fatal functions table (frames_of procedures) notes (with_frames procedures table.symbols sections))
 
 -- nor has synthesis such a fault
 made_fine : (made : Option Synthesis) (notes : List Noted) (answer : Result NotedObject FaultAt) → NotTooLarge answer → NotTooLarge (unless_fault made notes answer)
@@ -64,4 +68,4 @@ pub end_is_no_reading : (flags : Flags) (f : FollowedSource) (fault : FaultAt) �
 end_is_no_reading flags f fault is =
     IfErr-at_err (λ at. is_file_too_large at.fault ≡ false) is
     (made_fine flags.scfi (notes_of f) _
-    (finished_fine flags.fatal_warnings f.placed.sections f.placed.table (procedures_by flags.scfi f.placed.procedures) (notes_of f))).holds
+    (finished_fine flags.fatal_warnings (length f.functions) f.placed.sections f.placed.table (procedures_by flags.scfi f.placed.procedures) (notes_of f))).holds

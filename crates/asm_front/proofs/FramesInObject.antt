@@ -33,7 +33,7 @@ use Rattle.asm_functions.specs.FollowedSource.{FollowedSource, notes_of}
 use Rattle.asm_functions.specs.Standing.{StandsInOrder}
 use Rattle.synthesis_laws.specs.WrittenTables.{TablesAreOfItems, TablesCanBeWritten}
 use Rattle.asm_front.specs.Synthesis.{Synthesis, IsMadeAt}
-use Rattle.asm_front.specs.Ending.{Flags, unclosed, first_line, framed, framed_end, unless_open, finished, procedures_by, with_made, unless_fault, followed_end}
+use Rattle.asm_front.specs.Ending.{Flags, unclosed, framed, framed_end, unless_open, finished, procedures_by, with_made, unless_fault, followed_end}
 use Rattle.asm_front.specs.declared.ending.NotedObject.{NotedObject}
 use Rattle.asm_front.specs.ReadsBack.{FramesReadBack}
 use Rattle.asm_front.proofs.FramedSections.{TableFacts, is_framed}
@@ -69,11 +69,11 @@ none_begun None is = refl
 none_begun (Some frame) is = absurd cc
 
 -- all procedures of an object have ended
-all_ended : (fatal : Bool) (whole : Placed) (notes : List Noted) (made : NotedObject) → finished fatal whole.sections whole.table whole.procedures notes ≡ Ok made
+all_ended : (fatal : Bool) (functions : ℕ) (whole : Placed) (notes : List Noted) (made : NotedObject) → finished fatal functions whole.sections whole.table whole.procedures notes ≡ Ok made
     → frames_of whole.procedures ≡ whole.procedures.closed
 unfolding finished
-all_ended fatal whole notes made e =
-    let none = no_place (unclosed whole.procedures) notes (framed_end fatal whole.table (first_line (frames_of whole.procedures)) notes (framed whole)) made e in
+all_ended fatal functions whole notes made e =
+    let none = no_place (unclosed whole.procedures) notes (framed_end fatal functions whole.table (frames_of whole.procedures) notes (framed whole)) made e in
     ap (λ (begun : Option Frame). whole.procedures.closed ++ option_to_list begun) (none_begun whole.procedures.begun none) ∙ append-nil whole.procedures.closed
 
 -- each of them covers places of its section
@@ -95,10 +95,10 @@ pub are_covered : StandingFacts → TablesCanBeWritten → TablesAreOfItems → 
 are_covered facts written of_items flags handed f made all ordered = by_synthesis flags.scfi
   where
     by_synthesis : (scfi : Option Synthesis) → IsMadeAt scfi f
-        → unless_fault scfi (notes_of f) (finished flags.fatal_warnings f.placed.sections f.placed.table (procedures_by scfi f.placed.procedures) (notes_of f)) ≡ Ok made
+        → unless_fault scfi (notes_of f) (finished flags.fatal_warnings (length f.functions) f.placed.sections f.placed.table (procedures_by scfi f.placed.procedures) (notes_of f)) ≡ Ok made
         → AreCovered scfi f.placed
     by_synthesis None is ends =
-        let closed = all_ended flags.fatal_warnings f.placed (notes_of f) made ends in
+        let closed = all_ended flags.fatal_warnings (length f.functions) f.placed (notes_of f) made ends in
         subst (All (IsCovered f.placed.sections)) (sym closed)
         (frames_covered f.placed (facts.places handed (nothing_placed flags.no_warn) f.placed all (facts.starts flags.no_warn)) (facts.ordered handed flags.no_warn f.placed all) closed)
     by_synthesis (Some (Ok frames)) is ends = subst (All (IsCovered f.placed.sections)) (sym (append-nil frames)) (functions_covered written of_items f frames is ordered)

@@ -146,8 +146,9 @@ abbrev pub made_of : (flags : Flags) (handed : List TokenStatement) (f : Followe
     → followed_end flags f ≡ Ok made → Makes flags handed made
 made_of flags handed f made places ends = record {
   whole = f.placed;
+  functions = length f.functions;
   notes = notes_of f;
   places = places;
   ends = unless_fault_is flags.scfi (notes_of f)
-      (finished flags.fatal_warnings f.placed.sections f.placed.table (procedures_by flags.scfi f.placed.procedures) (notes_of f)) made ends;
+      (finished flags.fatal_warnings (length f.functions) f.placed.sections f.placed.table (procedures_by flags.scfi f.placed.procedures) (notes_of f)) made ends;
 }

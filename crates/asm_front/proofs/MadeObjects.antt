@@ -1,5 +1,5 @@
 -- What the object of a source is made of.
-use Rattle.std.proofs.Common.{◌≡◌, ℕ, Bool, List, Some, Ok}
+use Rattle.std.proofs.Common.{◌≡◌, ℕ, Bool, List, length, Some, Ok}
 use Rattle.asm_base.specs.Inputs.{Contents}
 use Rattle.asm_lines.specs.NextStatements.{TokenStatement}
 use Rattle.asm_lines.specs.Statements.{statements_of}
@@ -30,8 +30,8 @@ object_is_made table facts flags contents name source made end comes places cove
     let whole = end.f.placed in
     let full = with_made flags.scfi whole in
     let within = facts.kept (handed_of flags contents name source) (nothing_placed flags.no_warn) whole places (facts.begins flags.no_warn) in
-    let finish = finished_is flags.fatal_warnings full (notes_of end.f) made
-    (unless_fault_is flags.scfi (notes_of end.f) (finished flags.fatal_warnings whole.sections whole.table (procedures_by flags.scfi whole.procedures) (notes_of end.f)) made end.ends) in
+    let finish = finished_is flags.fatal_warnings (length end.f.functions) full (notes_of end.f) made
+    (unless_fault_is flags.scfi (notes_of end.f) (finished flags.fatal_warnings (length end.f.functions) whole.sections whole.table (procedures_by flags.scfi whole.procedures) (notes_of end.f)) made end.ends) in
     let with_table = is_framed table full finish.tables within finish.frames in
     record {
       whole = end.f;

@@ -19,6 +19,7 @@ use Rattle.asm_values.specs.State.{Placed, nothing_placed}
 use Rattle.asm_uses.specs.Tables.{Table, with_map}
 use Rattle.asm_words.specs.declared.directives.Syntax.{Syntax}
 use Rattle.asm_words.specs.declared.directives.Syntax.TheVariants.{Att, Intel}
+use Rattle.cfi_directives.specs.declared.frames.Frame.{Frame}
 use Rattle.cfi_directives.specs.Procedures.{frames_of}
 use Rattle.eh_frame.specs.Pieces.{Tables}
 use Rattle.asm_base.specs.declared.causes.FragCause.{FragCause}
@@ -31,7 +32,8 @@ use Rattle.elf_object.specs.Objects.{object_of}
 use Rattle.elf_object.specs.Image.{image_of}
 use Rattle.elf_file.specs.Places.{PieceAt}
 use Rattle.elf_object.specs.Places.{IsFiled, IsBetween}
-use Rattle.asm_front.specs.Ending.{Flags, first_warning, warned_end, made_end, laid_end, noted, unclosed, first_line, framed, framed_end, unless_open, finished, procedures_by, with_made}
+use Rattle.asm_front.specs.Ending.{Flags, first_warning, warned_end, made_end, laid_end, counts_of, noted, unclosed, framed, framed_end, unless_open, finished, procedures_by, with_made}
+use Rattle.asm_front.specs.declared.answers.Counts.{Counts}
 use Rattle.asm_front.specs.declared.ending.Ended.{Ended}
 use Rattle.asm_front.specs.declared.ending.NotedObject.{NotedObject}
 use Rattle.asm_front.specs.ReadsBack.{Origin, IsReached, AreReached, ReadsAt, file_place, BareReadBack}
@@ -110,9 +112,9 @@ laid_is : (fatal : Bool) (table : Table) (notes : List Noted) (answer : Result L
 laid_is fatal table notes (Ok sections) made e = (sections, refl, made_is fatal table notes (object_of table.symbols sections) made e)
 laid_is fatal table notes (Err fault) made e = absurd cc
 
-noted_is : (notes : List Noted) (answer : Result (List ℕ) Ended) (made : NotedObject) → noted notes answer ≡ Ok made → answer ≡ Ok made.object
-noted_is notes (Ok object) made e = cc
-noted_is notes (Err ended) made e = absurd cc
+noted_is : (counts : Counts) (notes : List Noted) (answer : Result (List ℕ) Ended) (made : NotedObject) → noted counts notes answer ≡ Ok made → answer ≡ Ok made.object
+noted_is counts notes (Ok object) made e = cc
+noted_is counts notes (Err ended) made e = absurd cc
 
 -- no procedure of an object is open
 unless_open_is : (place : Option Pos) (notes : List Noted) (answer : Result NotedObject FaultAt) (made : NotedObject) → unless_open place notes answer ≡ Ok made → answer ≡ Ok made
@@ -120,11 +122,13 @@ unless_open_is None notes answer made e = e
 unless_open_is (Some pos) notes answer made e = absurd cc
 
 -- the frame table of an object
-tables_are : (fatal : Bool) (table : Table) (pos : Pos) (notes : List Noted) (answer : Result Tables FragCause) (made : NotedObject) → framed_end fatal table pos notes answer ≡ Ok made
+tables_are : (fatal : Bool) (functions : ℕ) (table : Table) (frames : List Frame) (notes : List Noted) (answer : Result Tables FragCause) (made : NotedObject)
+    → framed_end fatal functions table frames notes answer ≡ Ok made
     → (tables : Tables) × (answer ≡ Ok tables)
-    × (noted notes (laid_end fatal (with_map table tables.symbols) notes (layout_of tables.symbols tables.sections)) ≡ Ok made)
-tables_are fatal table pos notes (Ok tables) made e = (tables, refl, e)
-tables_are fatal table pos notes (Err cause) made e = absurd cc
+    × (noted (counts_of functions (length frames) tables.symbols tables.sections) notes
+    (laid_end fatal (with_map table tables.symbols) notes (layout_of tables.symbols tables.sections)) ≡ Ok made)
+tables_are fatal functions table frames notes (Ok tables) made e = (tables, refl, e)
+tables_are fatal functions table frames notes (Err cause) made e = absurd cc
 
 -- what was placed comes to this object: with a frame table, and a layout
 pub record IsFinished (whole : Placed) (object : List ℕ) : Type 0 where
@@ -135,16 +139,18 @@ pub record IsFinished (whole : Placed) (object : List ℕ) : Type 0 where
   pub is_object : object_of tables.symbols laid ≡ Ok object
   pub image : object ≡ image_of tables.symbols laid
 
-pub finished_is : (fatal : Bool) (whole : Placed) (notes : List Noted) (made : NotedObject) → finished fatal whole.sections whole.table whole.procedures notes ≡ Ok made → IsFinished whole made.object
+pub finished_is : (fatal : Bool) (functions : ℕ) (whole : Placed) (notes : List Noted) (made : NotedObject)
+    → finished fatal functions whole.sections whole.table whole.procedures notes ≡ Ok made → IsFinished whole made.object
 unfolding finished
-finished_is fatal whole notes made e =
-    let pos = first_line (frames_of whole.procedures) in
-    let closed : framed_end fatal whole.table pos notes (framed whole) ≡ Ok made =
-    unless_open_is (unclosed whole.procedures) notes (framed_end fatal whole.table pos notes (framed whole)) made e in
-    let table = tables_are fatal whole.table pos notes (framed whole) made closed in
+finished_is fatal functions whole notes made e =
+    let frames = frames_of whole.procedures in
+    let closed : framed_end fatal functions whole.table frames notes (framed whole) ≡ Ok made =
+    unless_open_is (unclosed whole.procedures) notes (framed_end fatal functions whole.table frames notes (framed whole)) made e in
+    let table = tables_are fatal functions whole.table frames notes (framed whole) made closed in
+    let counts = counts_of functions (length frames) table.0.symbols table.0.sections in
     let answer = layout_of table.0.symbols table.0.sections in
     let full = with_map whole.table table.0.symbols in
-    let laid = laid_is fatal full notes answer made.object (noted_is notes (laid_end fatal full notes answer) made table.2) in
+    let laid = laid_is fatal full notes answer made.object (noted_is counts notes (laid_end fatal full notes answer) made table.2) in
     record {
       tables = table.0;
       frames = table.1;
@@ -157,13 +163,14 @@ finished_is fatal whole notes made e =
 -- the statements that are handed out are all placed, and what they place has this object, with these notes
 pub record Makes (flags : Flags) (handed : List TokenStatement) (made : NotedObject) : Type 0 where
   pub whole : Placed
+  pub functions : ℕ
   pub notes : List Noted
   pub places : place_all handed (nothing_placed flags.no_warn) ≡ Ok whole
-  pub ends : finished flags.fatal_warnings whole.sections whole.table (procedures_by flags.scfi whole.procedures) notes ≡ Ok made
+  pub ends : finished flags.fatal_warnings functions whole.sections whole.table (procedures_by flags.scfi whole.procedures) notes ≡ Ok made
 
 module _ (flags : Flags) (handed : List TokenStatement) (made : NotedObject) (makes : Makes flags handed made) where
   pub end : IsFinished (with_made flags.scfi makes.whole) made.object
-  end = finished_is flags.fatal_warnings (with_made flags.scfi makes.whole) makes.notes made makes.ends
+  end = finished_is flags.fatal_warnings makes.functions (with_made flags.scfi makes.whole) makes.notes made makes.ends
 
   abbrev pub origin : Origin flags handed made.object
   origin = record { whole = makes.whole; tables = end.tables; laid = end.laid; places = makes.places; frames = end.frames; settles = end.settles; image = end.image }

@@ -1,8 +1,7 @@
 -- The answer of a call of `assemble`, by what expansion answered.
-use Rattle.std.specs.Prelude.{◌≡◌, ◌≤◌, ◌+◌, ◌*◌, false, List, [], ◌∷◌, drop, length, ℕ, Option, None, Some, Result, Ok, Err, string_bytes}
+use Rattle.std.specs.Prelude.{◌≡◌, false, List, [], ◌∷◌, drop, ℕ, Option, Result, Ok, Err, string_bytes}
 use Rattle.asm_base.specs.History.{FileEvent, happened, whole_files}
 use Rattle.asm_base.specs.Inputs.{Contents}
-use Rattle.asm_base.specs.WholeFile.{most_bytes}
 use Rattle.asm_base.specs.declared.faults.Fault.TheVariants.{Statement}
 use Rattle.asm_lines.specs.declared.faults.LineCause.{LineCause}
 use Rattle.asm_place.specs.Faults.{is_file_too_large}
@@ -13,13 +12,16 @@ use Rattle.macro_words.specs.Files.{line_of_cause}
 use Rattle.asm_macro.specs.declared.faults.ExpandFault.{ExpandFault}
 use Rattle.asm_macro.specs.declared.faults.ExpandFault.TheVariants as expand
 use Rattle.asm_macro.specs.Placing.{Step, ended, fails, refused, untold}
-use Rattle.asm_macro.specs.Starts.{IsFront, ReadsFront}
+use Rattle.asm_macro.specs.Starts.{ReadsFront}
 use Rattle.asm_functions.specs.FollowedSource.{FollowedSource}
+use Rattle.asm_front.specs.Synthesis.{Synthesis}
 use Rattle.asm_front.specs.Ending.{Flags}
-use Rattle.asm_front.specs.Assembly.{Assembly, assembled, faulty, macro_fault, included_by, assembly_by, nothing_yet, expansion_of, main_file, StepIsMade, IsMade}
-use Rattle.asm_front.specs.Outcome.{Assembles, AssemblesAs, CountsMissed, WithSynthesis, flags_of}
+use Rattle.asm_front.specs.Sources.{MainSource, main_of}
+use Rattle.asm_front.specs.Assembly.{Assembly, assembled, faulty, macro_fault, assembly_by, known_by, nothing_yet, expansion_of, main_file, StepIsMade, IsMade}
+use Rattle.asm_front.specs.Outcome.{Assembles, AssemblesKnown, CountsKnown, StartsKnown, WithSynthesis, flags_of, flags_asked}
 use Rattle.asm_front.specs.ReadsBack.{ReadsBackFrom}
 use Rattle.asm_front.specs.Fitting.{AnswerFits, TextFits, SourceIsReadable}
+use Rattle.asm_front.specs.declared.answers.Asked.{Asked}
 use Rattle.asm_front.specs.declared.answers.Options.{Options}
 use Rattle.asm_front.specs.declared.answers.Assembled.{Assembled}
 use Rattle.asm_front.specs.declared.answers.AsmFault.{AsmFault}
@@ -27,7 +29,7 @@ use Rattle.asm_front.specs.declared.answers.AsmFault.TheVariants.{Source, Read, 
 
 -- the object or the fault is answered, unless memory runs out
 abbrev pub IsAnswered : Assembly → Result Assembled AsmFault → Type 0
-IsAnswered assembly (Ok made) = assembly ≡ assembled (record { object = made.object; notes = made.notes }) made.files
+IsAnswered assembly (Ok made) = assembly ≡ assembled (record { object = made.object; notes = made.notes; counts = made.counts }) made.files
 IsAnswered assembly (Err (Source fault pos notes files)) = assembly ≡ faulty (fault_at fault pos notes) files
 IsAnswered assembly (Err Read) = ⊥
 IsAnswered assembly (Err NoMemory) = Unit {0}
@@ -57,28 +59,26 @@ abbrev pub AnswersSmall : Result (Unit {0}) (ExpandFault FaultAt) → Result Ass
 AnswersSmall (Err (expand.Placing at)) (Err (Source fault pos notes files)) = is_file_too_large fault ≡ false
 AnswersSmall expanded result = Unit {0}
 
--- the answer for a text that is not too large, where contents are told
-abbrev pub AssemblesText : Flags → Option Contents → List ℕ → List ℕ → Result Assembled AsmFault → Type 0
-AssemblesText flags None name text result = Unit {0}
-AssemblesText flags (Some contents) name text result =
-    AssemblesAs (assembly_by flags name (expansion_of flags (Some contents) name text)) result
+-- what a text of this name that is not too large stands for, unless it starts a file of which nothing is known
+abbrev pub text_assembly : Flags → Option Contents → List ℕ → List ℕ → Option Assembly
+text_assembly flags contents name text = known_by flags name (expansion_of flags contents name text)
 
--- the count of starts of what has no contents, where they are told
+-- the answer for the text
+abbrev pub AssemblesText : Flags → Option Contents → List ℕ → List ℕ → Result Assembled AsmFault → Type 0
+AssemblesText flags contents name text result = AssemblesKnown (text_assembly flags contents name text) result
+
+-- the count of starts of what has no contents
 abbrev pub CountsText : Flags → Option Contents → List ℕ → List ℕ → ℕ → ℕ → Type 0
-CountsText flags None name text before now = before ≤ now
-CountsText flags (Some contents) name text before now =
-    CountsMissed (assembly_by flags name (expansion_of flags (Some contents) name text)) before now
+CountsText flags contents name text before now = CountsKnown (text_assembly flags contents name text) before now
 
 -- where there is an object, the files that the text started were read to their end
 abbrev pub ReadsText : Result Assembled AsmFault → Option (List FileEvent) → Option (List FileEvent) → Type 0
 ReadsText (Ok made) before now = now ≡ happened before (whole_files (drop 1 made.files))
 ReadsText (Err fault) before now = Unit {0}
 
--- where contents are told, these are the first of the files that the text starts
+-- these are the first of the files that the text starts
 abbrev pub StartsTexts : Flags → Option Contents → List ℕ → List ℕ → List (List ℕ) → Type 0
-StartsTexts flags None name text these = Unit {0}
-StartsTexts flags (Some contents) name text these =
-    IsFront these (included_by (assembly_by flags name (expansion_of flags (Some contents) name text)))
+StartsTexts flags contents name text these = StartsKnown (text_assembly flags contents name text) these
 
 -- on every answer, the first of the files that the text starts were read one after the other, the last of them perhaps in part
 pub record StartsIncluded (flags : Flags) (contents : Option Contents) (name text : List ℕ) (before now : Option (List FileEvent)) (taken taken_after : ℕ) : Type 0 where
@@ -86,50 +86,45 @@ pub record StartsIncluded (flags : Flags) (contents : Option Contents) (name tex
   pub these : StartsTexts flags contents name text included
   pub reads : ReadsFront included before now taken taken_after
 
--- so many bytes were read of them
-abbrev pub TakesText : Result Assembled AsmFault → ℕ → ℕ → Type 0
-TakesText (Ok made) before now = (before ≤ now) × (now ≤ before + (most_bytes + 1) * length (drop 1 made.files))
-TakesText (Err (Source fault pos notes files)) before now = (before ≤ now) × (now ≤ before + (most_bytes + 1) * length files)
-TakesText (Err Read) before now = before ≤ now
-TakesText (Err NoMemory) before now = before ≤ now
-
 -- WITH WHAT SYNTHESIS COMES TO
 
--- where contents are told, this is what the functions of a text come to, if they are followed
+-- this is what the functions of a text come to, if they are followed
 abbrev pub TextIsMade : Flags → Option Contents → List ℕ → List ℕ → Type 0
-TextIsMade flags None name text = Unit {0}
-TextIsMade flags (Some contents) name text = StepIsMade flags.scfi (expansion_of flags (Some contents) name text)
+TextIsMade flags contents name text = StepIsMade flags.scfi (expansion_of flags contents name text)
 
 -- the answer is that for what came of the source, and the numbers of its object fit
 pub record IsFitAnswer (flags : Flags) (name : List ℕ) (files : List (List ℕ)) (f : FollowedSource) (expanded : Result (Unit {0}) (ExpandFault FaultAt)) (result : Result Assembled AsmFault) : Type 0 where
   pub answer : IsAnswer flags name files f expanded result
   pub numbers : AnswerFits flags expanded f result
 
--- the answer for the source with these options
-abbrev pub AnswersSource : Options → List (List ℕ) → FollowedSource → Result (Unit {0}) (ExpandFault FaultAt) → Result Assembled AsmFault → Type 0
-AnswersSource options files f expanded result =
-    WithSynthesis result (λ made. StepIsMade (flags_of options made).scfi (came_of (flags_of options made) (string_bytes options.file) files f expanded))
-    (λ made. IsFitAnswer (flags_of options made) (string_bytes options.file) files f expanded result)
+-- the answer for the source that is asked for
+abbrev pub AnswersSource : Asked → List (List ℕ) → FollowedSource → Result (Unit {0}) (ExpandFault FaultAt) → Result Assembled AsmFault → Type 0
+AnswersSource asked files f expanded result =
+    WithSynthesis result (λ made. StepIsMade (flags_asked asked made).scfi (came_of (flags_asked asked made) (string_bytes asked.file) files f expanded))
+    (λ made. IsFitAnswer (flags_asked asked made) (string_bytes asked.file) files f expanded result)
 
 -- the answer is that for the text, and the numbers of its object fit
 pub record IsFitText (flags : Flags) (contents : Option Contents) (name text : List ℕ) (result : Result Assembled AsmFault) : Type 0 where
   pub outcome : AssemblesText flags contents name text result
   pub numbers : TextFits flags contents name text result
 
--- the answer for a text with these options
-abbrev pub AnswersText : Options → Option Contents → List ℕ → Result Assembled AsmFault → Type 0
-AnswersText options contents text result =
-    WithSynthesis result (λ made. TextIsMade (flags_of options made) contents (string_bytes options.file) text)
-    (λ made. IsFitText (flags_of options made) contents (string_bytes options.file) text result)
+-- the answer for a text of the name that is asked for
+abbrev pub AnswersText : Asked → Option Contents → List ℕ → Result Assembled AsmFault → Type 0
+AnswersText asked contents text result =
+    WithSynthesis result (λ made. TextIsMade (flags_asked asked made) contents (string_bytes asked.file) text)
+    (λ made. IsFitText (flags_asked asked made) contents (string_bytes asked.file) text result)
 
--- the answer is that for the file of the name, its object reads back, and a reader finds the sections of that
-pub record IsAssembled (flags : Flags) (contents : Option Contents) (name : List ℕ) (result : Result Assembled AsmFault) : Type 0 where
-  pub outcome : Assembles flags contents name result
-  pub reads_back : ReadsBackFrom flags contents name result
-  pub readable : SourceIsReadable flags contents name result
+-- the answer is that for the main source, its object reads back, and a reader finds the sections of that
+pub record IsAssembled (flags : Flags) (contents : Option Contents) (main : MainSource) (result : Result Assembled AsmFault) : Type 0 where
+  pub outcome : Assembles flags contents main result
+  pub reads_back : ReadsBackFrom flags contents main result
+  pub readable : SourceIsReadable flags contents main result
 
--- the answer for the options' file
+-- the answer for a main source with these flags
+abbrev pub AnswersMain : (Synthesis → Flags) → MainSource → Option Contents → Result Assembled AsmFault → Type 0
+AnswersMain flags main contents result =
+    WithSynthesis result (λ made. IsMade (flags made) contents main) (λ made. IsAssembled (flags made) contents main result)
+
+-- the answer for the options' source
 abbrev pub AnswersFile : Options → Option Contents → Result Assembled AsmFault → Type 0
-AnswersFile options contents result =
-    WithSynthesis result (λ made. IsMade (flags_of options made) contents (string_bytes options.file))
-    (λ made. IsAssembled (flags_of options made) contents (string_bytes options.file) result)
+AnswersFile options contents result = AnswersMain (flags_of options) (main_of options.source) contents result

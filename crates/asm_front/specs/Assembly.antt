@@ -19,6 +19,7 @@ use Rattle.asm_place.specs.Sources.{pos_at, fault_at}
 use Rattle.asm_place.specs.declared.place_faults.FaultAt.{FaultAt}
 use Rattle.asm_front.specs.Ending.{Flags, followed_end}
 use Rattle.asm_front.specs.Knowing.{told_by}
+use Rattle.asm_front.specs.Sources.{MainSource, file, given, name_of, source_in}
 use Rattle.asm_front.specs.Synthesis.{Synthesis, IsMadeAt}
 use Rattle.asm_front.specs.declared.ending.NotedObject.{NotedObject}
 
@@ -66,7 +67,7 @@ macro_fault macros.BadFileName = statement.BadFileName
 
 -- the fault of a file that is too large, at its first line
 abbrev pub too_large : ℕ → FaultAt
-too_large file = fault_at (Statement statement.FileTooLarge) (pos_at file 1) []
+too_large number = fault_at (Statement statement.FileTooLarge) (pos_at number 1) []
 
 -- functions are followed where their frame tables are to be worked out
 abbrev pub is_asked : Flags → Bool
@@ -116,6 +117,32 @@ assembly_of flags contents name source =
     if nat_lt most_bytes (length source) then faulty (too_large main_file) (shown_files name [])
     else assembly_by flags name (expansion_of flags (Some contents) name source)
 
+-- what the file of a name stands for, where these are the contents of files
+abbrev pub file_assembly : Flags → Contents → List ℕ → Option (List ℕ) → Assembly
+file_assembly flags contents name (Some source) = assembly_of flags contents name source
+file_assembly flags contents name None = missing (shown_name name ∷ [])
+
+-- what a source of this name stands for by what comes of its statements, unless it starts a file of which nothing is known
+abbrev pub known_by : Flags → List ℕ → Step FollowedSource FaultAt → Option Assembly
+known_by flags name (ended files f) = Some (assembly_by flags name (ended files f))
+known_by flags name (fails files cause pos f) = Some (assembly_by flags name (fails files cause pos f))
+known_by flags name (refused files fault) = Some (assembly_by flags name (refused files fault))
+known_by flags name (misses files) = Some (assembly_by flags name (misses files))
+known_by flags name (goes state f) = Some (assembly_by flags name (goes state f))
+known_by flags name untold = None
+
+-- what a text that is given stands for where contents are not known, unless it starts a file
+unfoldable pub given_assembly : Flags → List ℕ → Option Assembly
+given_assembly flags text =
+    if nat_lt most_bytes (length text) then Some (faulty (too_large main_file) (shown_files [] []))
+    else known_by flags [] (expansion_of flags None [] text)
+
+-- what a main source stands for, where that is known
+abbrev pub main_assembly : Flags → Option Contents → MainSource → Option Assembly
+main_assembly flags (Some contents) main = Some (file_assembly flags contents (name_of main) (source_in contents main))
+main_assembly flags None (file name) = None
+main_assembly flags None (given text) = given_assembly flags text
+
 -- the statements that are handed out of these lines
 abbrev pub handed_by : Flags → Contents → List ℕ → Result (List StatementAt) LineCause → List TokenStatement
 handed_by flags contents name (Ok statements) =
@@ -142,7 +169,8 @@ abbrev pub FileIsMade : Flags → Contents → List ℕ → Option (List ℕ) �
 FileIsMade flags contents name None = Unit {0}
 FileIsMade flags contents name (Some source) = SourceIsMade flags contents name source
 
--- the same for the contents of the name, where they are told
-abbrev pub IsMade : Flags → Option Contents → List ℕ → Type 0
-IsMade flags None name = Unit {0}
-IsMade flags (Some contents) name = FileIsMade flags contents name (contents name)
+-- the same of a main source, where contents are known; of a text that is given also where they are not
+abbrev pub IsMade : Flags → Option Contents → MainSource → Type 0
+IsMade flags (Some contents) main = FileIsMade flags contents (name_of main) (source_in contents main)
+IsMade flags None (file name) = Unit {0}
+IsMade flags None (given text) = length text ≤ most_bytes → StepIsMade flags.scfi (expansion_of flags None [] text)

@@ -28,6 +28,8 @@ use Rattle.asm_place.specs.Sources.{fault_at}
 use Rattle.asm_place.specs.declared.place_faults.FaultAt.{FaultAt}
 use Rattle.asm_functions.specs.FollowedSource.{FollowedSource, notes_of}
 use Rattle.asm_front.specs.Synthesis.{Synthesis}
+use Rattle.layout_counts.specs.Counted.{text_bytes, near_jumps, rounds_of}
+use Rattle.asm_front.specs.declared.answers.Counts.{Counts}
 use Rattle.asm_front.specs.declared.ending.Ended.{Ended}
 use Rattle.asm_front.specs.declared.ending.NotedObject.{NotedObject}
 
@@ -85,10 +87,25 @@ abbrev pub laid_end : Bool → Table → List Noted → Result LaidSections Layo
 laid_end fatal table notes (Ok sections) = made_end fatal table notes (object_of table.symbols sections)
 laid_end fatal table notes (Err fault) = Err (layout_end fault)
 
--- the object or the fault at the end, with the notes
-abbrev pub noted : List Noted → Result (List ℕ) Ended → Result NotedObject FaultAt
-noted notes (Ok object) = Ok (record { object = object; notes = notes })
-noted notes (Err ended) = Err (fault_at (End ended.fault) ended.pos notes)
+-- the sections of a layout, if it has no fault
+abbrev pub laid_of : Result LaidSections LayoutFault → LaidSections
+laid_of (Ok sections) = sections
+laid_of (Err fault) = []
+
+-- what is counted of a source with so many functions and frames, whose sections are these with the frame table
+unfoldable pub counts_of : ℕ → ℕ → SymbolMap → List LooseSection → Counts
+counts_of functions frames symbols sections = record {
+  functions = functions;
+  text_bytes = text_bytes (laid_of (layout_of symbols sections));
+  near_jumps = near_jumps (laid_of (layout_of symbols sections));
+  rounds = rounds_of symbols sections;
+  frames = frames;
+}
+
+-- the object or the fault at the end, with what is counted and the notes
+abbrev pub noted : Counts → List Noted → Result (List ℕ) Ended → Result NotedObject FaultAt
+noted counts notes (Ok object) = Ok (record { object = object; notes = notes; counts = counts })
+noted counts notes (Err ended) = Err (fault_at (End ended.fault) ended.pos notes)
 
 -- where a procedure begins that is not closed
 abbrev pub unclosed : Procedures → Option Pos
@@ -115,23 +132,24 @@ with_frames procedures symbols sections = placed (frames_of procedures) (tables_
 abbrev pub framed : Placed → Result Tables FragCause
 framed whole = with_frames whole.procedures whole.table.symbols whole.sections
 
--- the object or the fault behind the frame table, which is refused at the first procedure's line
-abbrev pub framed_end : Bool → Table → Pos → List Noted → Result Tables FragCause → Result NotedObject FaultAt
-framed_end fatal table pos notes (Ok tables) =
-    noted notes (laid_end fatal (with_map table tables.symbols) notes (layout_of tables.symbols tables.sections))
-framed_end fatal table pos notes (Err cause) = Err (fault_at (table_fault cause) pos notes)
+-- the object or the fault behind the frame table of these procedures, which is refused at the line of the first
+abbrev pub framed_end : Bool → ℕ → Table → List Frame → List Noted → Result Tables FragCause → Result NotedObject FaultAt
+framed_end fatal functions table frames notes (Ok tables) =
+    noted (counts_of functions (length frames) tables.symbols tables.sections) notes
+    (laid_end fatal (with_map table tables.symbols) notes (layout_of tables.symbols tables.sections))
+framed_end fatal functions table frames notes (Err cause) = Err (fault_at (table_fault cause) (first_line frames) notes)
 
 -- the answer, unless a procedure is not closed
 abbrev pub unless_open : Option Pos → List Noted → Result NotedObject FaultAt → Result NotedObject FaultAt
 unless_open None notes answer = answer
 unless_open (Some pos) notes answer = Err (fault_at (End end.UnclosedProcedure) pos notes)
 
--- the object at the end of the source, or the first fault there: of a procedure that is not closed, of the frame table, of the layout with it, of the object,
--- and warnings last
-unfoldable pub finished : Bool → List LooseSection → Table → Procedures → List Noted → Result NotedObject FaultAt
-finished fatal sections table procedures notes =
+-- the object at the end of a source with so many functions, or the first fault there: of a procedure that is not closed, of the frame table, of the layout
+-- with it, of the object, and warnings last
+unfoldable pub finished : Bool → ℕ → List LooseSection → Table → Procedures → List Noted → Result NotedObject FaultAt
+finished fatal functions sections table procedures notes =
     unless_open (unclosed procedures) notes
-    (framed_end fatal table (first_line (frames_of procedures)) notes (with_frames procedures table.symbols sections))
+    (framed_end fatal functions table (frames_of procedures) notes (with_frames procedures table.symbols sections))
 
 -- FRAME TABLES THAT ARE WORKED OUT
 
@@ -155,4 +173,4 @@ unless_fault (Some (Err at)) notes answer = Err (fault_at (Scfi at.fault) at.pos
 abbrev pub followed_end : Flags → FollowedSource → Result NotedObject FaultAt
 followed_end flags f =
     unless_fault flags.scfi (notes_of f)
-    (finished flags.fatal_warnings f.placed.sections f.placed.table (procedures_by flags.scfi f.placed.procedures) (notes_of f))
+    (finished flags.fatal_warnings (length f.functions) f.placed.sections f.placed.table (procedures_by flags.scfi f.placed.procedures) (notes_of f))

@@ -25,10 +25,11 @@ use Rattle.asm_place.specs.declared.place_faults.FaultAt.{FaultAt}
 use Rattle.asm_functions.specs.FollowedSource.{FollowedSource}
 use Rattle.asm_front.specs.Synthesis.{Synthesis, ComeTo, IsMadeAt}
 use Rattle.asm_front.specs.Ending.{Flags, with_frames, framed, finished, procedures_by, with_made, unless_fault, followed_end}
-use Rattle.asm_front.specs.Outcome.{flags_of}
+use Rattle.asm_front.specs.Sources.{MainSource, name_of, source_in}
+use Rattle.asm_front.specs.Outcome.{flags_asked}
 use Rattle.asm_front.specs.Assembly.{expansion_of, handed_of}
 use Rattle.asm_front.specs.ReadsBack.{Origin}
-use Rattle.asm_front.specs.declared.answers.Options.{Options}
+use Rattle.asm_front.specs.declared.answers.Asked.{Asked}
 use Rattle.asm_front.specs.declared.answers.Assembled.{Assembled}
 use Rattle.asm_front.specs.declared.answers.AsmFault.{AsmFault}
 use Rattle.asm_front.specs.declared.ending.NotedObject.{NotedObject}
@@ -51,31 +52,33 @@ AnswerFits flags (Ok u) f (Ok made) = TablesFit (framed (with_made flags.scfi f.
 AnswerFits flags (Ok u) f (Err fault) = Unit {0}
 AnswerFits flags (Err stop) f result = Unit {0}
 
--- the object or the fault at the end, with the frame tables that are worked out of these functions, by what these come to; the numbers of an object fit
-pub record EndsWithFrames (fatal : Bool) (sections : List LooseSection) (table : Table) (functions : List (Recorded CodeItem)) (notes : List Noted) (answer : Result NotedObject FaultAt) : Type 0 where
+-- the object or the fault at the end, with the frame tables that are worked out of these functions, of which so many are counted, by what these come to; the
+-- numbers of an object fit
+pub record EndsWithFrames (fatal : Bool) (count : ℕ) (sections : List LooseSection) (table : Table) (functions : List (Recorded CodeItem))
+    (notes : List Noted) (answer : Result NotedObject FaultAt) : Type 0 where
   pub made : Synthesis
   pub comes : ComeTo table.symbols sections functions made
-  pub answers : unless_fault (Some made) notes (finished fatal sections table (procedures_by (Some made) no_procedures) notes) ≡ answer
+  pub answers : unless_fault (Some made) notes (finished fatal count sections table (procedures_by (Some made) no_procedures) notes) ≡ answer
   pub fits : OnOk answer (TablesFit (with_frames (procedures_by (Some made) no_procedures) table.symbols sections))
 
 -- the call answers so
-abbrev pub AnswersWithFrames : Bool → List LooseSection → Table → List (Recorded CodeItem) → List Noted → Result NotedObject (Refusal FaultAt) → Type 0
-AnswersWithFrames fatal sections table functions notes (Ok made) = EndsWithFrames fatal sections table functions notes (Ok made)
-AnswersWithFrames fatal sections table functions notes (Err (refusal.Fault at)) = EndsWithFrames fatal sections table functions notes (Err at)
-AnswersWithFrames fatal sections table functions notes (Err refusal.NoMemory) = Unit {0}
+abbrev pub AnswersWithFrames : Bool → ℕ → List LooseSection → Table → List (Recorded CodeItem) → List Noted → Result NotedObject (Refusal FaultAt) → Type 0
+AnswersWithFrames fatal count sections table functions notes (Ok made) = EndsWithFrames fatal count sections table functions notes (Ok made)
+AnswersWithFrames fatal count sections table functions notes (Err (refusal.Fault at)) = EndsWithFrames fatal count sections table functions notes (Err at)
+AnswersWithFrames fatal count sections table functions notes (Err refusal.NoMemory) = Unit {0}
 
 -- the object of all that was placed and followed, or the fault at the end, by what synthesis comes to
-pub record EndsFollowed (options : Options) (f : FollowedSource) (answer : Result NotedObject FaultAt) : Type 0 where
+pub record EndsFollowed (asked : Asked) (f : FollowedSource) (answer : Result NotedObject FaultAt) : Type 0 where
   pub made : Synthesis
-  pub comes : IsMadeAt (flags_of options made).scfi f
-  pub answers : followed_end (flags_of options made) f ≡ answer
-  pub fits : OnOk answer (TablesFit (framed (with_made (flags_of options made).scfi f.placed)))
+  pub comes : IsMadeAt (flags_asked asked made).scfi f
+  pub answers : followed_end (flags_asked asked made) f ≡ answer
+  pub fits : OnOk answer (TablesFit (framed (with_made (flags_asked asked made).scfi f.placed)))
 
 -- the call answers so
-abbrev pub AnswersFollowed : Options → FollowedSource → Result NotedObject (Refusal FaultAt) → Type 0
-AnswersFollowed options f (Ok made) = EndsFollowed options f (Ok made)
-AnswersFollowed options f (Err (refusal.Fault at)) = EndsFollowed options f (Err at)
-AnswersFollowed options f (Err refusal.NoMemory) = Unit {0}
+abbrev pub AnswersFollowed : Asked → FollowedSource → Result NotedObject (Refusal FaultAt) → Type 0
+AnswersFollowed asked f (Ok made) = EndsFollowed asked f (Ok made)
+AnswersFollowed asked f (Err (refusal.Fault at)) = EndsFollowed asked f (Err at)
+AnswersFollowed asked f (Err refusal.NoMemory) = Unit {0}
 
 -- where a list comes to its end, so do those of what it places
 abbrev pub StepFits : Flags → Step FollowedSource FaultAt → Type 0
@@ -84,9 +87,8 @@ StepFits flags _ = Unit {0}
 
 -- where there is an object, so do those of what the text of a source comes to
 abbrev pub TextFits : Flags → Option Contents → List ℕ → List ℕ → Result Assembled AsmFault → Type 0
-TextFits flags None name text result = Unit {0}
-TextFits flags (Some contents) name text (Ok made) = StepFits flags (expansion_of flags (Some contents) name text)
-TextFits flags (Some contents) name text (Err fault) = Unit {0}
+TextFits flags contents name text (Ok made) = StepFits flags (expansion_of flags contents name text)
+TextFits flags contents name text (Err fault) = Unit {0}
 
 -- WHAT A READER FINDS
 
@@ -106,7 +108,7 @@ FileIsReadable flags contents name None result = Unit {0}
 FileIsReadable flags contents name (Some source) (Ok made) = ObjectIsReadable flags (handed_of flags contents name source) made.object
 FileIsReadable flags contents name (Some source) (Err fault) = Unit {0}
 
--- where the contents of the name are known, the object is readable
-abbrev pub SourceIsReadable : Flags → Option Contents → List ℕ → Result Assembled AsmFault → Type 0
-SourceIsReadable flags None name result = Unit {0}
-SourceIsReadable flags (Some contents) name result = FileIsReadable flags contents name (contents name) result
+-- where contents are known, the object of a main source is readable
+abbrev pub SourceIsReadable : Flags → Option Contents → MainSource → Result Assembled AsmFault → Type 0
+SourceIsReadable flags None main result = Unit {0}
+SourceIsReadable flags (Some contents) main result = FileIsReadable flags contents (name_of main) (source_in contents main) result

@@ -2,6 +2,7 @@
 pub mod Knowing
 pub mod Synthesis
 pub mod Ending
+pub mod Sources
 pub mod Assembly
 pub mod Outcome
 pub mod ReadsBack

@@ -38,6 +38,7 @@ use Rattle.asm_place.specs.Instructions.{instruction_of, next_item, next_offset}
 use Rattle.elf_object.specs.Image.{image_of}
 use Rattle.elf_object.specs.Places.{section_offset, moved}
 use Rattle.asm_front.specs.Ending.{Flags, framed, with_made}
+use Rattle.asm_front.specs.Sources.{MainSource, name_of, source_in}
 use Rattle.asm_front.specs.Assembly.{handed_of}
 use Rattle.asm_front.specs.declared.answers.Assembled.{Assembled}
 use Rattle.asm_front.specs.declared.answers.AsmFault.{AsmFault}
@@ -234,7 +235,7 @@ AnswerReadsBack flags contents name None result = Unit {0}
 AnswerReadsBack flags contents name (Some source) (Ok made) = ReadsBack flags (handed_of flags contents name source) made.object
 AnswerReadsBack flags contents name (Some source) (Err fault) = Unit {0}
 
--- where the contents of the name are told, the object reads back as they
-abbrev pub ReadsBackFrom : Flags → Option Contents → List ℕ → Result Assembled AsmFault → Type 0
-ReadsBackFrom flags None name result = Unit {0}
-ReadsBackFrom flags (Some contents) name result = AnswerReadsBack flags contents name (contents name) result
+-- where contents are known, the object of a main source reads back as they
+abbrev pub ReadsBackFrom : Flags → Option Contents → MainSource → Result Assembled AsmFault → Type 0
+ReadsBackFrom flags None main result = Unit {0}
+ReadsBackFrom flags (Some contents) main result = AnswerReadsBack flags contents (name_of main) (source_in contents main) result

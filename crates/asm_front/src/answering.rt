@@ -9,7 +9,7 @@ ghost use Rattle.asm_front.specs.Assembly as spec;
 ghost use Rattle.asm_front.specs.Assembly.{macro_fault, main_file, shown_name, shown_files};
 ghost use Rattle.asm_front.specs.Fitting.{AnswersFollowed};
 
-use crate::answers::{AsmFault, Assembled, Options};
+use crate::answers::{Asked, AsmFault, Assembled};
 use crate::ending::{NotedObject, finished, synthesized_object};
 use crate::placers::{SourcePlacer, StatementRefusal};
 use asm_base::{Fault, Files, NoMemory, Notes, Pos, Refusal, StatementFault};
@@ -128,18 +128,19 @@ pub(crate) fn faulty(
 #[tactic(auto, using(crate::proofs::SynthesizedEnds::plain_answers, crate::proofs::SynthesizedEnds::frames_answer))]
 fn followed_object(
     alloc: Global,
-    options: &Options,
+    asked: &Asked,
     placer: SourcePlacer,
 ) -> Result<NotedObject, Refusal<FaultAt>>
-    ensures { AnswersFollowed options.now placer result }
+    ensures { AnswersFollowed asked.now placer result }
 {
-    let fatal = options.fatal_warnings;
+    let fatal = asked.fatal_warnings;
     match placer.into_parts() {
         Ok((parts, functions)) => {
-            if options.scfi {
-                synthesized_object(alloc, fatal, parts, functions)
+            let count = functions.len() as u64;
+            if asked.scfi {
+                synthesized_object(alloc, fatal, count, parts, functions)
             } else {
-                finished(alloc, fatal, parts)
+                finished(alloc, fatal, count, parts)
             }
         }
         Err(_) => Err(Refusal::NoMemory),
@@ -150,19 +151,26 @@ fn followed_object(
 #[tactic(auto, using(crate::proofs::SynthesizedEnds::object_at_end, crate::proofs::SynthesizedEnds::fault_at_end, crate::proofs::SynthesizedEnds::memory_at_end))]
 fn ended(
     alloc: Global,
-    options: &Options,
+    asked: &Asked,
     started: &Files,
     placer: SourcePlacer,
 ) -> Result<Assembled, AsmFault>
-    ensures { AnswersSource options.now started.now placer (Ok tt) result }
+    ensures { AnswersSource asked.now started.now placer (Ok tt) result }
 {
-    let name = options.file.as_str();
-    match followed_object(alloc, options, placer) {
-        Ok(NotedObject { object, notes }) => match shown_files(alloc, name, started) {
+    let name = asked.file.as_str();
+    match followed_object(alloc, asked, placer) {
+        Ok(
+            NotedObject {
+                object,
+                notes,
+                counts,
+            },
+        ) => match shown_files(alloc, name, started) {
             Ok(files) => Ok(Assembled {
                 notes,
                 files,
                 object,
+                counts,
             }),
             Err(_) => Err(AsmFault::NoMemory),
         },
@@ -194,21 +202,21 @@ fn stopped(
     }
 }
 
-/// The answer for the source with these options, by what expansion answered.
+/// The answer for the source that is asked for, by what expansion answered.
 #[tactic(auto, using(crate::proofs::SynthesizedEnds::read_answer, crate::proofs::SynthesizedEnds::memory_answer))]
 pub(crate) fn answer(
     alloc: Global,
-    options: &Options,
+    asked: &Asked,
     started: &Files,
     placer: SourcePlacer,
     expanded: Result<(), ExpandFault<StatementRefusal>>,
 ) -> Result<Assembled, AsmFault>
-    ensures answer { AnswersSource options.now started.now placer expanded result }
+    ensures answer { AnswersSource asked.now started.now placer expanded result }
     ensures small { AnswersSmall expanded result }
 {
-    let name = options.file.as_str();
+    let name = asked.file.as_str();
     match expanded {
-        Ok(()) => ended(alloc, options, started, placer),
+        Ok(()) => ended(alloc, asked, started, placer),
         Err(ExpandFault::Lines(cause)) => {
             faulty(alloc, name, &Files::new(alloc), line_fault(alloc, cause))
         }

@@ -1,13 +1,22 @@
 //! The options of the assembler, and its answers.
 
-use asm_base::{Fault, Files, Notes, Pos};
+use asm_base::{Fault, Files, Notes, Pos, Text};
 use elf_object::Object;
+
+/// Where the main source comes from.
+#[derive(Drop)]
+pub enum Main {
+    /// The file of this name; the empty name is standard input.
+    File(String),
+    /// This text; messages show it as standard input.
+    Given(Text),
+}
 
 /// The options of a command line.
 #[derive(Drop)]
 pub struct Options {
-    /// The name of the source file; the empty name is standard input.
-    pub file: String,
+    /// Where the source comes from.
+    pub source: Main,
     /// Frame tables are to be worked out of functions (`--scfi=experimental`).
     pub scfi: bool,
     /// Warnings are not to be made (`--no-warn`).
@@ -16,12 +25,38 @@ pub struct Options {
     pub fatal_warnings: bool,
 }
 
-/// An object, with the notes of its source and the names of its files.
+/// The options with the name of the source, which a text that is given has not.
+#[derive(Drop)]
+pub(crate) struct Asked {
+    /// The name of the source file; the empty name is standard input.
+    pub(crate) file: String,
+    pub(crate) scfi: bool,
+    pub(crate) no_warn: bool,
+    pub(crate) fatal_warnings: bool,
+}
+
+/// What is counted of a source with an object.
+#[derive(Clone, Copy, PartialEq, Eq, Debug)]
+pub struct Counts {
+    /// The functions that were followed; none where frame tables are not worked out of them.
+    pub functions: u64,
+    /// The size of the first section, which is `.text`, in bytes.
+    pub text_bytes: u64,
+    /// The jumps that take more than two bytes.
+    pub near_jumps: u64,
+    /// The rounds of the layout: one more than those that raised levels.
+    pub rounds: u64,
+    /// The entries of the frame table for procedures or functions.
+    pub frames: u64,
+}
+
+/// An object, with the notes of its source, the names of its files, and what is counted of it.
 #[derive(Drop)]
 pub struct Assembled {
     pub notes: Notes,
     pub files: Files,
     pub object: Object,
+    pub counts: Counts,
 }
 
 /// Why there is no object.

@@ -1,14 +1,14 @@
 //! The end of a source: the frame table of its procedures, or of its functions, the layout of what was placed with it, and
 //! its object, or the first fault of these.
 
-ghost use Rattle.std.specs.Prelude.{◌≡◌, ◌<◌, All, Ok, OnOk};
+ghost use Rattle.std.specs.Prelude.{◌≡◌, ◌<◌, All, IfOk, Ok, OnOk, length};
 ghost use Rattle.asm_front.specs.Ending as spec;
 ghost use Rattle.asm_front.specs.Fitting.{AnswersWithFrames, LayoutFits, TablesFit};
 ghost use Rattle.asm_front.specs.Synthesis.{IsReady};
 ghost use Rattle.asm_functions.specs.Following.{end_of};
 ghost use Rattle.code_functions.specs.Recorded.{all_closed};
 ghost use Rattle.elf_object.specs.Limits.{NumbersFit};
-ghost use Rattle.asm_base.specs.Refusals.{Gives, Raises, Returns};
+ghost use Rattle.asm_base.specs.Refusals.{Gives, GivesBy, Raises, Returns};
 ghost use Rattle.asm_base.specs.declared.refusals.Refusal.TheVariants as refusal;
 ghost use Rattle.cfi_directives.specs.Procedures.{frames_of};
 ghost use Rattle.eh_frame.specs.Pieces.{tables_of};
@@ -16,9 +16,11 @@ ghost use Rattle.eh_frame.specs.Placing.{placed};
 ghost use Rattle.asm_place.specs.Sources.{fault_at};
 ghost use Rattle.asm_uses.specs.Tables.{with_map};
 ghost use Rattle.asm_relax.specs.declared.plan_states.PlanState.TheVariants.{Fresh, LaidOut};
-ghost use Rattle.asm_relax.specs.Settling.{layout_of, settled_plan, Settles};
+ghost use Rattle.asm_relax.specs.Settling.{layout_of, settled_plan, IsLaidOut, Settles};
+ghost use Rattle.layout_counts.specs.Counted.{near_jumps, rounds_of, text_bytes};
 ghost use Rattle.elf_object.specs.Objects.{object_of};
 
+use crate::answers::Counts;
 use crate::synthesizing::{ItemFaultAt, synthesized};
 use asm_base::{EndFault, Fault, Noted, Notes, Pos, Refusal, StatementFault, Steps};
 use asm_frags::{FragCause, FragFault, Laid, Sections};
@@ -29,6 +31,7 @@ use asm_values::Placed;
 use cfi_directives::{Directives, Frames};
 use code_functions::Functions;
 use elf_object::{Object, ObjectCause, ObjectFault};
+use layout_counts::{LayoutCounts, count_layout, rounds_are_counted};
 use std::alloc::Global;
 use std::marker::Brand;
 use std::sync::ledger::{Blank, Ledger};
@@ -119,11 +122,12 @@ fn first_warning(fatal: bool, notes: &[Noted]) -> Option<Pos>
     }
 }
 
-/// An object, and the notes of its source.
+/// An object, the notes of its source, and what is counted of that.
 #[derive(Drop)]
 pub struct NotedObject {
     pub object: Object,
     pub notes: Notes,
+    pub counts: Counts,
 }
 
 /// The object of a layout, or its first fault; warnings come last.
@@ -158,10 +162,20 @@ fn settled<L: Ledger>(plan: &mut Plan, blank: Blank) -> Result<Settled, LayoutFa
     requires fresh { plan.old.state ≡ Fresh }
     ensures value { Settles plan.new.sections result
         (settled_plan plan.old.map plan.old.sections) }
+    ensures layout { IfOk result (λ done.
+        IsLaidOut plan.old.map plan.old.sections plan.new.sections done.rounds) }
     ensures laid { OnOk result (plan.new.state ≡ LaidOut) }
 {
     let mut steps = Steps::<L>::new(blank);
     plan.settle(&mut steps)
+}
+
+/// An object, with what is counted of its layout.
+#[derive(Drop)]
+struct LaidObject {
+    object: Object,
+    counts: LayoutCounts,
+    rounds: u64,
 }
 
 /// The object of the placed sections, or the first fault of layout and object.
@@ -171,17 +185,42 @@ fn placed_object(
     sections: Sections,
     table: &SymbolUses,
     notes: &[Noted],
-) -> Result<Object, Refusal<Ended>>
-    ensures object { Returns result (spec.laid_end fatal table.now notes.now
+) -> Result<LaidObject, Refusal<Ended>>
+    ensures object { GivesBy (λ laid. laid.object) result (spec.laid_end fatal table.now notes.now
         (layout_of table.now.symbols sections)) }
+    ensures text { IfOk result (λ laid. laid.counts.text_bytes
+        ≡ text_bytes (spec.laid_of (layout_of table.now.symbols sections))) }
+    ensures jumps { IfOk result (λ laid. laid.counts.near_jumps
+        ≡ near_jumps (spec.laid_of (layout_of table.now.symbols sections))) }
+    ensures rounds { IfOk result (λ laid. laid.rounds ≡ rounds_of table.now.symbols sections) }
     ensures numbers { OnOk result (LayoutFits table.now.symbols
         (layout_of table.now.symbols sections)) }
 {
+    rounds_are_counted();
     let mut plan = Plan::new(alloc, sections, table.symbols())?;
-    match settled::<Brand>(&mut plan, Blank::new(1)) {
-        Ok(_) => made_end(alloc, fatal, plan.laid(), table, notes),
-        Err(fault) => Err(Refusal::Fault(layout_end(fault))),
+    let rounds = match settled::<Brand>(&mut plan, Blank::new(1)) {
+        Ok(Settled { rounds }) => rounds,
+        Err(fault) => return Err(Refusal::Fault(layout_end(fault))),
+    };
+    let laid = plan.laid();
+    let Some(counts) = count_layout(&laid) else {
+        return Err(Refusal::NoMemory);
+    };
+    match made_end(alloc, fatal, laid, table, notes) {
+        Ok(object) => Ok(LaidObject {
+            object,
+            counts,
+            rounds,
+        }),
+        Err(refusal) => Err(refusal),
     }
+}
+
+/// How many functions and frames a source has.
+#[derive(Clone, Copy, Drop)]
+struct FramedCounts {
+    functions: u64,
+    frames: u64,
 }
 
 /// A fault at the end of a source, behind its notes.
@@ -191,21 +230,40 @@ fn refused(fault: Fault, pos: Pos, notes: Notes) -> Refusal<FaultAt>
     Refusal::Fault(FaultAt { fault, pos, notes })
 }
 
-/// The object of the placed sections, or the first fault of layout and object, with the notes.
+/// The object of the placed sections, or the first fault of layout and object, with what is counted and the notes.
+#[tactic(auto, unfolding(crate::specs::Ending::counts_of))]
 fn noted_object(
     alloc: Global,
     fatal: bool,
+    counted: FramedCounts,
     sections: Sections,
     table: &SymbolUses,
     notes: Notes,
 ) -> Result<NotedObject, Refusal<FaultAt>>
-    ensures object { Returns result (spec.noted notes (spec.laid_end fatal table.now notes
-        (layout_of table.now.symbols sections))) }
+    ensures object { Returns result (spec.noted
+        (spec.counts_of counted.functions counted.frames table.now.symbols sections) notes
+        (spec.laid_end fatal table.now notes (layout_of table.now.symbols sections))) }
     ensures numbers { OnOk result (LayoutFits table.now.symbols
         (layout_of table.now.symbols sections)) }
 {
     match placed_object(alloc, fatal, sections, table, notes.as_slice()) {
-        Ok(object) => Ok(NotedObject { object, notes }),
+        Ok(
+            LaidObject {
+                object,
+                counts,
+                rounds,
+            },
+        ) => Ok(NotedObject {
+            object,
+            notes,
+            counts: Counts {
+                functions: counted.functions,
+                text_bytes: counts.text_bytes,
+                near_jumps: counts.near_jumps,
+                rounds,
+                frames: counted.frames,
+            },
+        }),
         Err(Refusal::Fault(ended)) => Err(refused(Fault::End(ended.fault), ended.pos, notes)),
         Err(Refusal::NoMemory) => Err(Refusal::NoMemory),
     }
@@ -270,37 +328,43 @@ fn put_frames(
 fn framed_object(
     alloc: Global,
     fatal: bool,
+    functions: u64,
     mut sections: Sections,
     mut table: SymbolUses,
     frames: Frames,
     notes: Notes,
 ) -> Result<NotedObject, Refusal<FaultAt>>
-    ensures object { Returns result (spec.framed_end fatal table (spec.first_line frames) notes
+    ensures object { Returns result (spec.framed_end fatal functions table frames notes
         (placed frames (tables_of table.symbols sections))) }
     ensures numbers { OnOk result (TablesFit (placed frames (tables_of table.symbols sections))) }
 {
     let first = first_line(&frames);
+    let counted = FramedCounts {
+        functions,
+        frames: frames.as_slice().len() as u64,
+    };
     let put = put_frames(alloc, &frames, &mut table, &mut sections);
     // Layout takes room of its own.
     drop(frames);
     match put {
-        Ok(()) => noted_object(alloc, fatal, sections, &table, notes),
+        Ok(()) => noted_object(alloc, fatal, counted, sections, &table, notes),
         Err(Refusal::Fault(cause)) => Err(refused(table_fault(cause), first, notes)),
         Err(Refusal::NoMemory) => Err(Refusal::NoMemory),
     }
 }
 
-/// The object with the frame tables that are worked out of the functions, or the first fault at the end: those of functions
-/// come before all others.
+/// The object with the frame tables that are worked out of the functions, of which so many are counted, or the first fault at
+/// the end: those of functions come before all others.
 #[tactic(auto, using(crate::proofs::SynthesizedEnds::frames_made, crate::proofs::SynthesizedEnds::fault_made))]
 pub(crate) fn synthesized_object(
     alloc: Global,
     fatal: bool,
+    count: u64,
     parts: Placed,
     functions: Functions,
 ) -> Result<NotedObject, Refusal<FaultAt>>
     requires { All (IsReady parts.sections) functions }
-    ensures { AnswersWithFrames fatal parts.sections parts.table
+    ensures { AnswersWithFrames fatal count parts.sections parts.table
         (all_closed (end_of parts.sections) functions) parts.notes result }
 {
     let Placed {
@@ -310,7 +374,7 @@ pub(crate) fn synthesized_object(
         ..
     } = parts;
     match synthesized(alloc, functions, &sections, table.symbols()) {
-        Ok(frames) => framed_object(alloc, fatal, sections, table, frames, notes),
+        Ok(frames) => framed_object(alloc, fatal, count, sections, table, frames, notes),
         Err(Refusal::Fault(ItemFaultAt { fault, pos })) => {
             Err(refused(Fault::Scfi(fault), pos, notes))
         }
@@ -319,14 +383,15 @@ pub(crate) fn synthesized_object(
 }
 
 /// What was placed with its object, or the first fault at the end behind the notes: that of a procedure that is not closed
-/// comes before all others.
+/// comes before all others. So many functions are counted.
 #[tactic(auto, unfolding(crate::specs::Ending::finished))]
 pub(crate) fn finished(
     alloc: Global,
     fatal: bool,
+    functions: u64,
     parts: Placed,
 ) -> Result<NotedObject, Refusal<FaultAt>>
-    ensures object { Returns result (spec.finished fatal parts.sections parts.table
+    ensures object { Returns result (spec.finished fatal functions parts.sections parts.table
         parts.procedures parts.notes) }
     ensures numbers { OnOk result (TablesFit
         (spec.with_frames parts.procedures parts.table.symbols parts.sections)) }
@@ -342,5 +407,5 @@ pub(crate) fn finished(
         let fault = Fault::End(EndFault::UnclosedProcedure);
         return Err(refused(fault, pos, notes));
     }
-    framed_object(alloc, fatal, sections, table, frames, notes)
+    framed_object(alloc, fatal, functions, sections, table, frames, notes)
 }

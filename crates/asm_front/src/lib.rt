@@ -1,4 +1,4 @@
-//! From the name of a source to its object.
+//! From a source to its object.
 #![tactic(auto)]
 
 mod answering;
@@ -10,7 +10,7 @@ mod laws;
 mod placers;
 mod synthesizing;
 
-pub use answers::{AsmFault, Assembled, Options};
+pub use answers::{AsmFault, Assembled, Counts, Main, Options};
 pub use assembling::assemble;
 pub use ending::NotedObject;
 pub use laws::{
