@@ -1,0 +1,21 @@
+-- The proofs of this crate.
+mod Lists
+mod SettledObjects
+mod PlacedFacts
+mod ReachedStatements
+mod FramedSections
+mod BareInObject
+mod CodeValues
+mod SmallForms
+mod UnknownValues
+mod HeldFields
+mod CodePieces
+mod CodeReads
+mod JumpFields
+mod OwnPlaces
+mod FramedSymbols
+mod SmallSections
+mod JumpsInObject
+mod FramesInObject
+mod CodesInObject
+mod CoveredFrames

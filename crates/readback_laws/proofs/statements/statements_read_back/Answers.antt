@@ -1,0 +1,50 @@
+use Rattle.readback_laws.proofs.CodesInObject.{reads_back}
+use Rattle.readback_laws.proofs.CoveredFrames.{StandingFacts, are_covered}
+use Rattle.readback_laws.proofs.FramedSections.{TableFacts}
+use Rattle.readback_laws.proofs.JumpsInObject.{JumpFacts}
+use Rattle.readback_laws.proofs.PlacedFacts.{PlaceFacts}
+use Rattle.readback_laws.proofs.SettledObjects.{AreSettled}
+use Rattle.readback_laws.proofs.statements.statements_read_back.Goals as goal
+
+pub returns : goal.returns
+returns c no_warn worked_out handed object from ready =
+    let settled : AreSettled = record {
+      layouts = c.layouts_keep_sections.ensures;
+      placed = c.settled_is_placed.ensures.placed;
+      bytes = c.bytes_stand.ensures;
+      values = c.values_stand.ensures;
+    } in
+    let table : TableFacts = record { put = c.pieces_are_found.ensures.table; labels = c.labels_stand.ensures } in
+    let placing : PlaceFacts = record {
+      begins = c.placing_within.ensures.begins;
+      within = c.placing_within.ensures.kept;
+      bare_stands = c.instruction_items.ensures;
+      code_stands = c.encoding_items.ensures;
+    } in
+    let jumps : JumpFacts = record {
+      placed = c.jump_items.ensures;
+      stand = c.items_stand.ensures;
+      addresses = c.sizes_add_up.ensures.item;
+      read = c.jumps_read.ensures;
+      near = c.jump_reads_back.ensures.near;
+      short = c.jump_reads_back.ensures.short;
+      sized = c.jump_reads_back.ensures.size;
+      lead = c.distances_lead_to_labels.ensures;
+      room = c.settled_items_have_room.ensures;
+      low = c.layouts_are_low.ensures;
+      adds = c.coefficients_add.ensures;
+      starts = c.places_stand.ensures.begins;
+      places = c.places_stand.ensures.kept;
+      few = c.places_stand.ensures.few;
+      named = c.places_stand.ensures.named;
+    } in
+    let standing : StandingFacts = record {
+      begins = placing.begins;
+      within = placing.within;
+      starts = jumps.starts;
+      places = jumps.places;
+      ordered = c.procedures_stand_in_order.ensures;
+    } in
+    reads_back settled c.read_one_way.ensures c.bare_codes_read.ensures.read c.encodings_are_codes.ensures.fields
+    c.fields_stand_apart.ensures.places c.fields_stand_apart.ensures.values table placing jumps c.frame_tables_read.ensures no_warn worked_out handed object from
+    (are_covered standing no_warn worked_out handed object from ready)

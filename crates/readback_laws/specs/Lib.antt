@@ -1,0 +1,4 @@
+-- The definitions that contracts cite, in reading order.
+pub mod Origins
+pub mod Instructions
+pub mod ReadsBack
