@@ -30,7 +30,8 @@ use Rattle.asm_macro.specs.Placing.{Step, ended}
 use Rattle.asm_functions.specs.FollowedSource.{FollowedSource}
 use Rattle.asm_front.specs.Ending.{Flags, framed, with_made}
 use Rattle.asm_front.specs.Fitting.{LayoutFits, TablesFit, StepFits, IsReadable, ObjectIsReadable}
-use Rattle.asm_front.specs.ReadsBack.{FramesReadBack, ReadsBack}
+use Rattle.readback_laws.specs.ReadsBack.{FramesReadBack}
+use Rattle.asm_front.specs.ReadsBack.{ReadsBack}
 
 -- what lower layers say of small sources and their objects
 pub record SmallFacts : Type 0 where

@@ -19,9 +19,10 @@ use Rattle.asm_values.specs.State.{nothing_placed}
 use Rattle.asm_base.specs.declared.notes.Noted.{Noted}
 use Rattle.asm_front.specs.Assembly.{Assembly, assembled, faulty, nothing_yet, placed_after, told_of, ended_by, assembly_by, expansion_of, assembly_of, handed_by, handed_of, shown_files, main_file, too_large, StepIsMade, SourceIsMade}
 use Rattle.asm_front.specs.Synthesis.{Synthesis, IsMadeAt}
-use Rattle.asm_front.specs.Ending.{Flags, finished, procedures_by, unless_fault, followed_end}
+use Rattle.asm_front.specs.Ending.{Flags, finished, procedures_by, with_made, unless_fault, followed_end}
+use Rattle.asm_front.specs.ReadsBack.{Origin}
 use Rattle.asm_front.specs.declared.ending.NotedObject.{NotedObject}
-use Rattle.asm_front.proofs.ObjectReads.{Makes}
+use Rattle.asm_front.proofs.ObjectReads.{IsFinished, finished_is}
 
 -- STATEMENTS IN ORDER
 
@@ -142,13 +143,16 @@ pub handed_placed : Follows → (flags : Flags) (contents : Contents) (name sour
 unfolding handed_of
 handed_placed follows flags contents name source f is = follows (handed_by flags contents name (statements_of main_file source)) (nothing_yet flags) f is
 
-abbrev pub made_of : (flags : Flags) (handed : List TokenStatement) (f : FollowedSource) (made : NotedObject) → place_all handed (nothing_placed flags.no_warn) ≡ Ok f.placed
-    → followed_end flags f ≡ Ok made → Makes flags handed made
-made_of flags handed f made places ends = record {
-  whole = f.placed;
-  functions = length f.functions;
-  notes = notes_of f;
-  places = places;
-  ends = unless_fault_is flags.scfi (notes_of f)
-      (finished flags.fatal_warnings (length f.functions) f.placed.sections f.placed.table (procedures_by flags.scfi f.placed.procedures) (notes_of f)) made ends;
-}
+-- they come to the object with a frame table and a layout
+abbrev pub finish_of : (flags : Flags) (f : FollowedSource) (made : NotedObject) → followed_end flags f ≡ Ok made → IsFinished (with_made flags.scfi f.placed) made.object
+finish_of flags f made ends =
+    finished_is flags.fatal_warnings (length f.functions) (with_made flags.scfi f.placed) (notes_of f) made
+    (unless_fault_is flags.scfi (notes_of f)
+    (finished flags.fatal_warnings (length f.functions) f.placed.sections f.placed.table (procedures_by flags.scfi f.placed.procedures) (notes_of f)) made ends)
+
+-- so it is made of them
+abbrev pub origin_of : (flags : Flags) (handed : List TokenStatement) (f : FollowedSource) (made : NotedObject) → place_all handed (nothing_placed flags.no_warn) ≡ Ok f.placed
+    → followed_end flags f ≡ Ok made → Origin flags handed made.object
+origin_of flags handed f made places ends =
+    let end = finish_of flags f made ends in
+    record { whole = f.placed; tables = end.tables; laid = end.laid; places = places; frames = end.frames; settles = end.settles; image = end.image }

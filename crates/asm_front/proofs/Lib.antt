@@ -1,7 +1,5 @@
 -- The proofs of this crate.
 mod Lists
-mod SettledObjects
-mod StatementSplits
 mod ObjectReads
 mod FaultLaws
 mod ToldFiles
@@ -13,20 +11,6 @@ mod FittingObjects
 mod AnswersReadBack
 mod AnswersFit
 mod ObjectSamples
-mod CodeValues
-mod SmallForms
-mod UnknownValues
-mod HeldFields
-mod CodePieces
-mod CodeReads
-mod JumpFields
-mod LowLayouts
-mod OwnPlaces
-mod FramedSections
-mod PlacedFacts
-mod FramedSymbols
-mod SmallSections
-mod JumpsInObject
 mod RowCounts
 mod PlacesInOrder
 mod FrameAnswers
@@ -34,7 +18,6 @@ mod OrderedStates
 mod SynthesizedFrames
 mod OneSynthesis
 mod FramesInObject
-mod CodesInObject
 mod HandedStatements
 mod SynthesizedEnds
 mod AnswersMade

@@ -1,16 +1,10 @@
 -- Facts of lists.
-use Rattle.std.proofs.Common.{◌≡◌, ℕ, zero, suc, List, [], ◌∷◌, ◌++◌, All, Some, subst}
+use Rattle.std.proofs.Common.{◌≡◌, ℕ, List, All, Some, subst}
 use Rattle.std.specs.Prelude.{slice_get}
 use Rattle.std.proofs.lemmas.List.Elements.{All-get_or}
-use Rattle.std.proofs.lemmas.Option.{none-some, slice_get_within, get_or_from_slice_get}
+use Rattle.std.proofs.lemmas.Option.{slice_get_within, get_or_from_slice_get}
 
 module _ {X : Type 0} where
   -- what holds of all holds of the one that is there
   pub all_there : (P : X → Type 0) (xs : List X) (index : ℕ) (x : X) → slice_get xs index ≡ Some x → All P xs → P x
   all_there P xs index x there all = subst P (get_or_from_slice_get xs index x x there) (All-get_or P xs index x (slice_get_within xs index x there) all)
-
-  -- what is there is there in front of more
-  pub get_append : (xs ys : List X) (index : ℕ) (x : X) → slice_get xs index ≡ Some x → slice_get (xs ++ ys) index ≡ Some x
-  get_append [] ys index x there = absurd (none-some x there)
-  get_append (y ∷ xs) ys zero x there = there
-  get_append (y ∷ xs) ys (suc index) x there = get_append xs ys index x there

@@ -27,6 +27,7 @@ use Rattle.asm_values.specs.State.{Placed}
 use Rattle.asm_place.specs.Sources.{fault_at}
 use Rattle.asm_place.specs.declared.place_faults.FaultAt.{FaultAt}
 use Rattle.asm_functions.specs.FollowedSource.{FollowedSource, notes_of}
+use Rattle.readback_laws.specs.Origins as origins
 use Rattle.asm_front.specs.Synthesis.{Synthesis}
 use Rattle.layout_counts.specs.Counted.{text_bytes, near_jumps, rounds_of}
 use Rattle.asm_front.specs.declared.answers.Counts.{Counts}
@@ -153,11 +154,15 @@ finished fatal functions sections table procedures notes =
 
 -- FRAME TABLES THAT ARE WORKED OUT
 
--- frames that were worked out stand in place of procedures, and none is open
+-- the frames that were worked out of functions, where none of these has a fault
+abbrev pub worked_out : Option Synthesis → Option (List Frame)
+worked_out None = None
+worked_out (Some (Ok frames)) = Some frames
+worked_out (Some (Err at)) = None
+
+-- these stand in place of procedures, and none is open
 abbrev pub procedures_by : Option Synthesis → Procedures → Procedures
-procedures_by None procedures = procedures
-procedures_by (Some (Ok frames)) procedures = record { closed = frames; begun = None }
-procedures_by (Some (Err at)) procedures = procedures
+procedures_by made procedures = origins.procedures_by (worked_out made) procedures
 
 -- all that was placed, with these
 abbrev pub with_made : Option Synthesis → Placed → Placed

@@ -3,26 +3,16 @@ use Rattle.std.specs.Prelude.{◌≡◌, ℕ, List, Some, Ok}
 use Rattle.asm_base.specs.Inputs.{Contents}
 use Rattle.asm_lines.specs.Statements.{statements_of}
 use Rattle.asm_macro.specs.Placing.{ended}
-use Rattle.asm_values.specs.State.{Placed, nothing_placed}
-use Rattle.asm_place.specs.Instructions.{Grows}
+use Rattle.asm_values.specs.State.{nothing_placed}
 use Rattle.asm_place.specs.Sources.{place_all}
 use Rattle.asm_functions.specs.FollowedSource.{FollowedSource, follow_all}
-use Rattle.section_laws.specs.Within.{AreWithin}
 use Rattle.asm_relax.specs.Settling.{LaidSections, layout_of}
 use Rattle.eh_frame.specs.Pieces.{Tables}
-use Rattle.eh_frame.specs.StandingPlaces.{GetsStanding}
 use Rattle.elf_object.specs.Objects.{object_of}
+use Rattle.readback_laws.specs.Origins.{IsContinuedBy}
 use Rattle.asm_front.specs.Synthesis.{IsMadeAt}
 use Rattle.asm_front.specs.Ending.{Flags, framed, with_made}
 use Rattle.asm_front.specs.Assembly.{main_file, nothing_yet, expansion_of, handed_by, handed_of}
-
--- what was placed, with its frame table: all sections and symbols are as they were, and more.
--- Fields and items stand within the bytes of their sections, and the symbols that come are labels
--- that stand there
-pub record IsContinuedBy (whole : Placed) (tables : Tables) : Type 0 where
-  pub grows : Grows whole.sections tables.sections
-  pub within : AreWithin tables.sections
-  pub labels : GetsStanding tables.sections whole.table.symbols tables.symbols
 
 -- the list of statements of a source came to its end: all of them are placed and followed, their
 -- functions come to what synthesis makes of them, the frame table comes to that, both are laid out,

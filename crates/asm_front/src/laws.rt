@@ -15,26 +15,14 @@ ghost use Rattle.asm_front.specs.Made.{IsMadeOf};
 ghost use Rattle.asm_front.specs.ReadsBack.{ReadsBack};
 
 use crate::placers::SourcePlacer;
-use asm_expr::coefficients_add;
 use asm_functions::{following_is_placing, functions_stand_in_order};
 use asm_macro::handed_statements_are_placed;
-use asm_place::{
-    encoding_items, instruction_items, jump_items, jumps_read, places_stand, placing_in_order,
-    placing_within, procedures_stand_in_order, sources_are_small,
-};
-use asm_relax::{
-    distances_lead_to_labels, layouts_keep_sections, rows_rise, settled_is_placed,
-    settled_items_have_room, sizes_add_up,
-};
-use eh_frame::{labels_stand, pieces_are_found, tables_add_little};
-use elf_object::{bytes_stand, items_stand, values_stand};
-use frame_laws::frame_tables_read;
-use item_bytes::jump_reads_back;
+use asm_place::{placing_in_order, sources_are_small};
+use asm_relax::layouts_keep_sections;
+use eh_frame::tables_add_little;
 use object_laws::{objects_fit, source_sections_found};
+use readback_laws::{statements_read_back, tables_continue};
 use synthesis_laws::{answers_are_one, synthesis_sees, tables_are_of_items, tables_can_be_written};
-use x86_encode::{encodings_are_codes, fields_stand_apart};
-use x86_lookup::bare_codes_read;
-use x86_table::read_one_way;
 
 /// Only the reading of files calls one too large: the end of a source does not.
 pub fn the_end_is_no_reading()
@@ -70,11 +58,7 @@ pub fn objects_are_made()
     functions_stand_in_order();
     tables_can_be_written();
     tables_are_of_items();
-    placing_within();
-    places_stand();
-    procedures_stand_in_order();
-    pieces_are_found();
-    labels_stand();
+    tables_continue();
 }
 
 /// The object is that of a layout of all that the expansion of a source hands out. Each instruction of it stands in the object,
@@ -94,32 +78,7 @@ pub fn written_reads_back()
     functions_stand_in_order();
     tables_can_be_written();
     tables_are_of_items();
-    placing_in_order();
-    layouts_keep_sections();
-    settled_is_placed();
-    bytes_stand();
-    values_stand();
-    read_one_way();
-    bare_codes_read();
-    encodings_are_codes();
-    fields_stand_apart();
-    items_stand();
-    sizes_add_up();
-    settled_items_have_room();
-    rows_rise();
-    distances_lead_to_labels();
-    coefficients_add();
-    placing_within();
-    places_stand();
-    pieces_are_found();
-    labels_stand();
-    instruction_items();
-    encoding_items();
-    jump_items();
-    jumps_read();
-    jump_reads_back();
-    procedures_stand_in_order();
-    frame_tables_read();
+    statements_read_back();
 }
 
 /// Where the program's own numbers fit, all numbers of the object fit their fields in the file, it has fewer headers than the

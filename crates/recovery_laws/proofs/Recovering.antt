@@ -29,7 +29,8 @@ use Rattle.asm_front.specs.Synthesis.{Synthesis, IsSynthesis, IsMadeAt, IsFrameO
 use Rattle.asm_front.specs.Ending.{Flags, framed, with_made}
 use Rattle.asm_front.specs.Assembly.{assembled, assembly_of, is_asked, main_file, expansion_of, handed_by, handed_of, SourceIsMade}
 use Rattle.asm_front.specs.Made.{IsMadeOf}
-use Rattle.asm_front.specs.ReadsBack.{Origin, FramesReadBack, ReadsBack}
+use Rattle.readback_laws.specs.ReadsBack.{FramesReadBack}
+use Rattle.asm_front.specs.ReadsBack.{Origin, ReadsBack}
 use Rattle.asm_front.specs.declared.ending.NotedObject.{NotedObject}
 use Rattle.recovery_laws.specs.Recovered.{FunctionRecovers, FunctionsRecover}
 use Rattle.recovery_laws.specs.Sources.{FramesRecover, StepRecovers, SourceRecovers, ObjectsRecover}
