@@ -22,7 +22,7 @@ use Rattle.asm_front.specs.Synthesis.{Synthesis, IsMadeAt}
 use Rattle.asm_front.specs.Ending.{Flags, finished, procedures_by, with_made, unless_fault, followed_end}
 use Rattle.asm_front.specs.ReadsBack.{Origin}
 use Rattle.asm_front.specs.declared.ending.NotedObject.{NotedObject}
-use Rattle.asm_front.proofs.ObjectReads.{IsFinished, finished_is}
+use Rattle.asm_front.proofs.FinishedObjects.{IsFinished, finished_is}
 
 -- STATEMENTS IN ORDER
 

@@ -1,6 +1,6 @@
 -- The proofs of this crate.
 mod Lists
-mod ObjectReads
+mod FinishedObjects
 mod FaultLaws
 mod ToldFiles
 mod AnswerLemmas
@@ -17,7 +17,7 @@ mod FrameAnswers
 mod OrderedStates
 mod SynthesizedFrames
 mod OneSynthesis
-mod FramesInObject
+mod ReadyFrames
 mod HandedStatements
 mod SynthesizedEnds
 mod AnswersMade

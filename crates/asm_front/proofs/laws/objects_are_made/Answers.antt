@@ -1,4 +1,4 @@
-use Rattle.asm_front.proofs.FramesInObject.{are_ready}
+use Rattle.asm_front.proofs.ReadyFrames.{are_ready}
 use Rattle.asm_front.proofs.HandedStatements.{handed_comes, handed_placed, made_at_end}
 use Rattle.asm_front.proofs.MadeObjects.{object_is_made}
 use Rattle.asm_front.specs.Assembly.{is_asked}

@@ -1,4 +1,4 @@
-use Rattle.asm_front.proofs.FramesInObject.{are_ready}
+use Rattle.asm_front.proofs.ReadyFrames.{are_ready}
 use Rattle.asm_front.proofs.HandedStatements.{handed_comes, handed_placed, made_at_end, origin_of}
 use Rattle.asm_front.specs.Assembly.{handed_of, is_asked}
 use Rattle.asm_front.specs.Ending.{worked_out}
