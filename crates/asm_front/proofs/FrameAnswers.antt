@@ -22,38 +22,16 @@ use Rattle.code_functions.specs.Recorded.{Recorded, extent_of, items_of, closed_
 use Rattle.flow_graph.specs.declared.nodes.Node.{Node}
 use Rattle.flow_graph.specs.Nodes.{nodes_of}
 use Rattle.scfi_pass.specs.declared.item_ops.ItemOp.{ItemOp}
-use Rattle.scfi_pass.specs.declared.walked.ItemFault.{ItemFault}
-use Rattle.scfi_pass.specs.Synthesis.{IsTableOf, IsFaultOf}
-use Rattle.asm_front.specs.Synthesis.{IsTable, IsRefused, IsFrameOf, IsReady, AnswersTable, AnswersFrame, AnswersFrames, place_of, placed_op, placed_ops, fields_of, nodes_in, refused}
+use Rattle.scfi_pass.specs.Synthesis.{IsTableOf}
+use Rattle.asm_front.specs.Synthesis.{IsTable, IsRefused, IsFrameOf, IsReady, AnswersTable, AnswersFrame, AnswersFrames, place_of, placed_op, placed_ops, fields_of, nodes_in}
 use Rattle.asm_front.specs.declared.synthesizing.ItemFaultAt.{ItemFaultAt}
 
 -- ONE FUNCTION
-
--- the first fault of a function is told at one of its items
-pub fault_within : (items : List CodeItem) (nodes : List Node) (old new : ℕ) (first : ItemFault) → IsFaultOf items nodes old new (refused first) → first.item < length items
-fault_within items nodes old new first is =
-    let here = is.2.here in
-    subst (λ (held : List CodeItem). first.item < length held) is.1.same_items (slice_get_within is.0.items first.item here.item here.item_there)
 
 item_at : (items : List CodeItem) (k : ℕ) → k < length items → (item : CodeItem) × (slice_get items k ≡ Some item)
 item_at [] k low = absurd (omega (arith, low))
 item_at (x ∷ xs) zero low = (x, refl)
 item_at (x ∷ xs) (suc k) low = item_at xs k (omega (arith, low))
-
--- it is answered with the statement of its item
-pub fault_answered : (items : List CodeItem) (nodes : List Node) (old new : ℕ) (first : ItemFault) (at : ItemFaultAt) → IsFaultOf items nodes old new (refused first)
-    → IfSome (slice_get items first.item) (λ found. at ≡ record { fault = first.fault; pos = found.pos }) → AnswersTable items nodes (Err (refusal.Fault at))
-fault_answered items nodes old new first at fault is =
-    let found = item_at items first.item (fault_within items nodes old new first fault) in
-    record {
-      old = old;
-      new = new;
-      first = first;
-      item = found.0;
-      fault = fault;
-      there = found.1;
-      made = subst (λ (one : Option CodeItem). IfSome one (λ item. at ≡ record { fault = first.fault; pos = item.pos })) found.1 is;
-    }
 
 -- the place of an item
 pub place_at : (items : List CodeItem) (k : ℕ) (d : CodeItem) → k < length items → (slice_index_or items k d).place ≡ place_of items k

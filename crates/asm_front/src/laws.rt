@@ -17,7 +17,7 @@ ghost use Rattle.asm_front.specs.ReadsBack.{ReadsBack};
 use crate::placers::SourcePlacer;
 use asm_functions::{following_is_placing, functions_stand_in_order};
 use asm_macro::handed_statements_are_placed;
-use asm_place::{placing_in_order, sources_are_small};
+use asm_place::sources_are_small;
 use asm_relax::layouts_keep_sections;
 use eh_frame::tables_add_little;
 use object_laws::{objects_fit, source_sections_found};
@@ -94,7 +94,6 @@ pub fn written_is_readable()
     written_reads_back();
     handed_statements_are_placed::<SourcePlacer>();
     following_is_placing();
-    placing_in_order();
     sources_are_small();
     tables_add_little();
     layouts_keep_sections();
