@@ -1,8 +1,8 @@
 use Rattle.std.proofs.Common.{◌≡◌, ◌∙◌, ap₂, rules}
 use Rattle.std.proofs.lemmas.Result.{IfOk-weaker}
 use Rattle.clap.specs.Words.{rule_of, with_rule}
-use Rattle.asm_run.specs.Words.{as_app, no_warn_rule, object_rule}
-use Rattle.asm_run.proofs.words.as_command.Goals as goal
+use Rattle.run_words.specs.Words.{as_app, no_warn_rule, object_rule}
+use Rattle.run_words.proofs.words.as_command.Goals as goal
 
 pub returns : goal.returns
 unfolding as_app
@@ -14,4 +14,5 @@ returns c =
     let three = c.in_ok-arg-3.ensures.shape c.scfi_option-scfi.ensures.local ∙ ap₂ with_rule two c.scfi_option-scfi.ensures.rule in
     let four = c.in_ok-arg-4.ensures.shape (rw c.short-no_warn.ensures c.flag.ensures.local) ∙ ap₂ with_rule three no_warn in
     let five = c.in_ok-arg-5.ensures.shape c.flag-fatal_warnings.ensures.local ∙ ap₂ with_rule four c.flag-fatal_warnings.ensures.rule in
-    IfOk-weaker c.arg-6.result _ _ (λ r added. added.shape c.new-file.ensures.optional.1 ∙ ap₂ with_rule five c.new-file.ensures.rule) c.arg-6.ensures
+    let six = c.in_ok-arg-6.ensures.shape c.self_load_option-self_load.ensures.local ∙ ap₂ with_rule five c.self_load_option-self_load.ensures.rule in
+    IfOk-weaker c.arg-7.result _ _ (λ r added. added.shape c.new-file.ensures.optional.1 ∙ ap₂ with_rule six c.new-file.ensures.rule) c.arg-7.ensures

@@ -1,7 +1,7 @@
 use Rattle.std.proofs.Common.{◌∙◌}
 use Rattle.clap.specs.Words.{app_of}
-use Rattle.asm_run.proofs.Reading.{answer_refused, answer_taken}
-use Rattle.asm_run.proofs.words.read_words.Goals as goal
+use Rattle.run_words.proofs.Reading.{answer_refused, answer_taken}
+use Rattle.run_words.proofs.words.read_words.Goals as goal
 
 pub returns-in-Ok : goal.returns-in-Ok
 returns-in-Ok c = c.taken_of.ensures ∙ answer_taken (app_of c.in_ok-command.command) _ c.in-Ok.matches c.in_ok-command.ensures c.in-Ok.ensures.matches c.in-Ok.ensures.kinds

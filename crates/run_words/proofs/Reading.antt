@@ -6,7 +6,7 @@ use Rattle.clap.specs.declared.error.kind.ErrorKind.TheVariants as kind
 use Rattle.clap.specs.declared.parser.matches.ArgMatches.{ArgMatches}
 use Rattle.clap.specs.declared.parser.matches.Found.{Found}
 use Rattle.clap.proofs.WalkLemmas.{first_value-rows}
-use Rattle.asm_run.specs.Words.{Invocation, as_app, asked_by, faults_of, rows_of_words, taken_of, unless_fault}
+use Rattle.run_words.specs.Words.{Invocation, as_app, asked_by, faults_of, rows_of_words, taken_of, unless_fault}
 
 -- a getter's value, by the rows
 pub first_text : (f : Found) (id : List ℕ) → first_value f id ≡ first_of id (rows_of f)

@@ -3,18 +3,20 @@
 ghost use Rattle.std.specs.Prelude.{◌≡◌, false, IfOk, map, string_bytes};
 ghost use Rattle.std.specs.Option.{option_map};
 ghost use Rattle.clap.specs.Words.{app_of, found_of, rows_of, rule_of};
-ghost use Rattle.asm_run.specs.Invoked.{invoked};
-ghost use Rattle.asm_run.specs.Words.{as_app, asked_by, command_of, flag_rule, invocation_of, is_on, is_scfi, scfi_rule, source_of, taken_of};
+ghost use Rattle.run_words.specs.Invoked.{invoked};
+ghost use Rattle.run_words.specs.Words.{as_app, asked_by, command_of, has_values, invocation_of, flag_rule, is_on, is_scfi, scfi_rule, self_load_rule, source_of, taken_of};
 
+use crate::functions::{is_load, load_of};
 use asm_base::NoMemory;
 use clap::error::ErrorKind;
 use clap::{Arg, ArgAction, ArgMatches, Command};
 use std::alloc::{AllocError, Global};
 
-/// What the words ask for. The empty file is standard input.
+/// What the words ask for. The empty file is standard input, and a number of functions stands in place of a file.
 #[derive(Clone, Copy)]
 pub struct Invocation<'a> {
     pub file: &'a str,
+    pub self_load: Option<u32>,
     pub object: &'a str,
     /// Frame tables are to be worked out of functions.
     pub scfi: bool,
@@ -38,6 +40,14 @@ fn scfi_option<'a>(alloc: Global) -> Arg<'a>
     Arg::new(alloc, "scfi").long("scfi")
 }
 
+/// The option `--self-load`, which takes a value.
+fn self_load_option<'a>(alloc: Global) -> Arg<'a>
+    ensures rule { rule_of result ≡ self_load_rule }
+    ensures local { result.global ≡ false }
+{
+    Arg::new(alloc, "self-load").long("self-load")
+}
+
 /// The command that the words are read as.
 fn as_command<'a>(alloc: Global) -> Result<Command<'a>, AllocError>
     ensures { IfOk result (λ c. app_of c ≡ as_app) }
@@ -47,6 +57,7 @@ fn as_command<'a>(alloc: Global) -> Result<Command<'a>, AllocError>
     let scfi = scfi_option(alloc);
     let no_warn = flag(alloc, "no-warn").short('W');
     let fatal_warnings = flag(alloc, "fatal-warnings");
+    let self_load = self_load_option(alloc);
     let file = Arg::new(alloc, "file");
     Command::new(alloc, "as")
         .arg(object)?
@@ -54,6 +65,7 @@ fn as_command<'a>(alloc: Global) -> Result<Command<'a>, AllocError>
         .arg(scfi)?
         .arg(no_warn)?
         .arg(fatal_warnings)?
+        .arg(self_load)?
         .arg(file)
 }
 
@@ -84,8 +96,9 @@ fn invocation_of<'a>(matches: &ArgMatches<'a>) -> Invocation<'a>
             Some(word) => source_of(word),
             None => "",
         },
+        self_load: load_of(matches.get_str("self-load")),
         object: matches.get_str("object").unwrap_or("a.out"),
-        scfi: matches.get_str("scfi").is_some(),
+        scfi: matches.get_str("scfi").is_some() || matches.get_str("self-load").is_some(),
         no_warn: is_on(matches.get_str("no-warn")),
         fatal_warnings: is_on(matches.get_str("fatal-warnings")),
     }
@@ -101,12 +114,21 @@ fn is_scfi(value: Option<&str>) -> bool
     }
 }
 
-/// What the matches ask for, unless `--scfi` has a value that it does not take.
-#[tactic(auto, unfolding(crate::specs::Words::taken_of), using(crate::proofs::Reading::first_text))]
+/// Whether the options take their values.
+#[tactic(auto, using(crate::proofs::Reading::first_text))]
+fn has_values(matches: &ArgMatches<'_>) -> bool
+    ensures { result ≡ has_values (rows_of (found_of matches.now)) }
+{
+    is_scfi(matches.get_str("scfi"))
+        && is_load(matches.get_str("self-load"), matches.get_str("file"))
+}
+
+/// What the matches ask for, where the options take their values.
+#[tactic(auto, unfolding(crate::specs::Words::taken_of))]
 fn taken_of<'a>(matches: &ArgMatches<'a>) -> Option<Invocation<'a>>
     ensures { option_map invoked result ≡ taken_of (rows_of (found_of matches.now)) }
 {
-    if is_scfi(matches.get_str("scfi")) {
+    if has_values(matches) {
         Some(invocation_of(matches))
     } else {
         None

@@ -1,0 +1,4 @@
+-- The proofs of this crate.
+pub mod ReadNumbers
+mod Reading
+mod CommandSamples

@@ -1,0 +1,4 @@
+-- The definitions that the contracts cite, in reading order.
+pub mod Functions
+pub mod Words
+pub mod Invoked
