@@ -3,11 +3,9 @@ mod SaidPieces
 mod MadeFiles
 mod Deliveries
 mod StartedFiles
-mod CommandSamples
 mod ReadsBackAgain
 mod RecoversAgain
 mod ReadableObjects
 mod StandingOutcomes
 mod OneOutcome
-mod Reading
 mod Samples

@@ -5,11 +5,12 @@ use Rattle.asm_lines.specs.NextStatements.{TokenStatement}
 use Rattle.asm_front.specs.Synthesis.{Synthesis}
 use Rattle.asm_front.specs.Ending.{Flags}
 use Rattle.asm_front.specs.declared.ending.NotedObject.{NotedObject}
+use Rattle.asm_front.specs.Sources.{name_of, source_in}
 use Rattle.asm_front.specs.Assembly.{Assembly, assembled, faulty, assembly_of, handed_of, SourceIsMade, FileIsMade, IsMade}
 use Rattle.asm_front.specs.Assembly as assembly
 use Rattle.asm_front.specs.ReadsBack.{ReadsBack}
-use Rattle.asm_run.specs.Words.{Invocation}
-use Rattle.asm_run.specs.Outcome.{flags_by, source_outcome}
+use Rattle.run_words.specs.Words.{Invocation}
+use Rattle.asm_run.specs.Outcome.{flags_by, main_of_invocation, source_outcome}
 use Rattle.asm_run.specs.ReadsBack.{OutcomeReadsBack, FileReadsBack, InvocationReadsBack, CommandReadsBack}
 
 -- the law of the definition
@@ -23,18 +24,19 @@ answer_reads_back invocation flags handed (assembled made files) law = law made 
 answer_reads_back invocation flags handed (faulty first files) law = tt
 answer_reads_back invocation flags handed (assembly.missing files) law = tt
 
-file_reads_back : Law → (invocation : Invocation) (held : Synthesis) (contents : Contents) (file : Option (List ℕ)) → FileIsMade (flags_by invocation held) contents invocation.file file
-    → FileReadsBack invocation held contents file
-file_reads_back law invocation held contents None so = tt
-file_reads_back law invocation held contents (Some source) so =
-    answer_reads_back invocation (flags_by invocation held) (handed_of (flags_by invocation held) contents invocation.file source)
-    (assembly_of (flags_by invocation held) contents invocation.file source)
-    (λ made files is. law (flags_by invocation held) contents invocation.file source made files is so)
+file_reads_back : Law → (invocation : Invocation) (held : Synthesis) (contents : Contents) (name : List ℕ) (source : Option (List ℕ))
+    → FileIsMade (flags_by invocation held) contents name source → FileReadsBack invocation held contents name source
+file_reads_back law invocation held contents name None so = tt
+file_reads_back law invocation held contents name (Some source) so =
+    answer_reads_back invocation (flags_by invocation held) (handed_of (flags_by invocation held) contents name source)
+    (assembly_of (flags_by invocation held) contents name source)
+    (λ made files is. law (flags_by invocation held) contents name source made files is so)
 
-invocation_reads_back : Law → (invocation : Invocation) (held : Synthesis) (contents : Option Contents) → IsMade (flags_by invocation held) contents invocation.file
+invocation_reads_back : Law → (invocation : Invocation) (held : Synthesis) (contents : Option Contents) → IsMade (flags_by invocation held) contents (main_of_invocation invocation)
     → InvocationReadsBack invocation held contents
 invocation_reads_back law invocation held None so = tt
-invocation_reads_back law invocation held (Some contents) so = file_reads_back law invocation held contents (contents invocation.file) so
+invocation_reads_back law invocation held (Some contents) so =
+    file_reads_back law invocation held contents (name_of (main_of_invocation invocation)) (source_in contents (main_of_invocation invocation)) so
 
 pub command_reads_back : ((flags : Flags) (contents : Contents) (name source : List ℕ) (made : NotedObject) (files : List (List ℕ))
     → assembly_of flags contents name source ≡ assembled made files → SourceIsMade flags contents name source → ReadsBack flags (handed_of flags contents name source) made.object)

@@ -96,7 +96,7 @@ use Rattle.macro_blocks.specs.Blocks.{depth_behind, stops, cut}
 use Rattle.asm_macro.specs.Expansion.{started, conditional, branch_end, conditional_end, repeat, each as each_copy_of, define, call, purge, after_call, exit, include, head, turn}
 use Rattle.asm_macro.specs.Placing.{steps, fails}
 use Rattle.clap.proofs.OnLiterals.{clap_on_literals}
-use Rattle.asm_run.specs.Words.{Invocation, as_app, asked_by, command_of, faults_of, invocation_of, rows_of_words, taken_of, usage_text}
+use Rattle.run_words.specs.Words.{Invocation, as_app, asked_by, command_of, faults_of, invocation_of, rows_of_words, taken_of, usage_text}
 use Rattle.asm_run.specs.Outcome.{Outcome, usage, missing, refused, object, flags_by, source_outcome, outcome}
 use Rattle.asm_relax.specs.Faults.{first_of}
 use Rattle.asm_symbols.specs.Looking.{told}
@@ -150,7 +150,7 @@ object_bytes None = []
 object_bytes (Some usage) = []
 object_bytes (Some (missing included)) = []
 object_bytes (Some (refused messages included)) = []
-object_bytes (Some (object name bytes messages included)) = bytes
+object_bytes (Some (object name bytes messages summary included)) = bytes
 
 -- its length, and the bytes of its `.text`, which stand behind the header
 abbrev length_and_text : ℕ → Option Outcome → ℕ × List ℕ
@@ -162,7 +162,7 @@ said_by None = []
 said_by (Some usage) = []
 said_by (Some (missing included)) = []
 said_by (Some (refused messages included)) = messages
-said_by (Some (object name bytes messages included)) = messages
+said_by (Some (object name bytes messages summary included)) = messages
 
 -- the flags
 abbrev flagged : List ℕ → List ℕ → Option Outcome

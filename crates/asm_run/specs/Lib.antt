@@ -1,6 +1,5 @@
 -- The definitions that the contracts cite, in reading order.
-pub mod Words
-pub mod Invoked
+pub mod Summary
 pub mod Outcome
 pub mod Answers
 pub mod ReadsBack

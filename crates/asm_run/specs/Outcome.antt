@@ -1,14 +1,18 @@
 -- What a command line stands for.
-use Rattle.std.specs.Prelude.{ℕ, List, [], drop, Option, None, Some, if◌then◌else◌}
+use Rattle.std.specs.Prelude.{ℕ, List, [], drop, length, Option, None, Some, if◌then◌else◌}
+use Rattle.std.specs.Option.{option_map}
 use Rattle.asm_base.specs.Inputs.{Contents}
 use Rattle.asm_base.specs.Messages.{remarks, refusal}
 use Rattle.asm_front.specs.Ending.{Flags}
 use Rattle.asm_base.specs.declared.statuses.Status.{Status}
 use Rattle.asm_base.specs.declared.statuses.Status.TheVariants.{Done, SourceFault, Usage, ReadFault, WriteFault, NoMemory}
 use Rattle.asm_front.specs.Synthesis.{Synthesis}
-use Rattle.asm_front.specs.Assembly.{Assembly, assembled, faulty, assembly_of, IsMade}
+use Rattle.asm_front.specs.Sources.{MainSource, file, given}
+use Rattle.asm_front.specs.Assembly.{Assembly, assembled, faulty, main_assembly, IsMade}
 use Rattle.asm_front.specs.Assembly as assembly
-use Rattle.asm_run.specs.Words.{Invocation, command_of}
+use Rattle.load_text.specs.Load.{load_text}
+use Rattle.run_words.specs.Words.{Invocation, command_of}
+use Rattle.asm_run.specs.Summary.{summary_by}
 
 -- what a command line stands for
 pub data Outcome : Type 0 where
@@ -18,8 +22,8 @@ pub data Outcome : Type 0 where
   missing : (included : List (List ℕ)) → Outcome
   -- the source has a fault, and starts these files
   refused : (messages : List ℕ) (included : List (List ℕ)) → Outcome
-  -- the source has an object, and starts these files
-  object : (name bytes messages : List ℕ) (included : List (List ℕ)) → Outcome
+  -- the source has an object, of which a summary may be said, and starts these files
+  object : (name bytes messages : List ℕ) (summary : Option (List ℕ)) (included : List (List ℕ)) → Outcome
 
 -- what the invocation asks of the assembly, where synthesis, if it is asked for, comes to this
 abbrev pub flags_by : Invocation → Synthesis → Flags
@@ -32,26 +36,35 @@ flags_by invocation made = record {
 -- what a source of this assembly stands for
 abbrev pub source_outcome : Invocation → Assembly → Outcome
 source_outcome invocation (assembled made files) =
-    object invocation.object made.object (remarks files made.notes) (drop 1 files)
+    object invocation.object made.object (remarks files made.notes) (summary_by invocation.self_load made.counts (length made.object)) (drop 1 files)
 source_outcome invocation (faulty first files) = refused (refusal files first.notes first.fault first.pos) (drop 1 files)
 source_outcome invocation (assembly.missing files) = missing (drop 1 files)
 
--- what the contents of the source's name stand for, if there are any, with those of the files that it starts
-abbrev pub file_outcome : Invocation → Synthesis → Contents → Option (List ℕ) → Outcome
-file_outcome invocation made contents None = missing []
-file_outcome invocation made contents (Some source) = source_outcome invocation (assembly_of (flags_by invocation made) contents invocation.file source)
+-- the source that is made of a number of functions, or else the file of this name
+abbrev pub main_by : (self_load : Option ℕ) → List ℕ → MainSource
+main_by None name = file name
+main_by (Some functions) name = given (load_text functions)
 
--- what the invocation stands for, where the contents are told
+-- the main source of an invocation
+abbrev pub main_of_invocation : Invocation → MainSource
+main_of_invocation invocation = main_by invocation.self_load invocation.file
+
+-- the main source of a command, and standard input where the words are none
+abbrev pub main_of_command : Option Invocation → MainSource
+main_of_command None = file []
+main_of_command (Some invocation) = main_of_invocation invocation
+
+-- what the invocation stands for, where that is known
 abbrev pub invocation_outcome : Invocation → Synthesis → Option Contents → Option Outcome
-invocation_outcome invocation made None = None
-invocation_outcome invocation made (Some contents) = Some (file_outcome invocation made contents (contents invocation.file))
+invocation_outcome invocation made contents =
+    option_map (source_outcome invocation) (main_assembly (flags_by invocation made) contents (main_of_invocation invocation))
 
 -- what the words stand for, where they are a command and where they are none
 abbrev pub command_outcome : Option Invocation → Synthesis → Option Contents → Option Outcome
 command_outcome None made contents = Some usage
 command_outcome (Some invocation) made contents = invocation_outcome invocation made contents
 
--- what the words stand for, where synthesis, if it is asked for, comes to this: usage, told or not, and all else where the contents are told
+-- what the words stand for, where synthesis, if it is asked for, comes to this: usage, told or not, and all else where it is known
 abbrev pub outcome : List (List ℕ) → Synthesis → Option Contents → Option Outcome
 outcome words made contents = command_outcome (command_of words) made contents
 
@@ -60,7 +73,7 @@ outcome words made contents = command_outcome (command_of words) made contents
 -- synthesis comes to this for the source that a command names, if it is asked for and the source comes to its end
 abbrev pub CommandIsMade : Option Invocation → Option Contents → Synthesis → Type 0
 CommandIsMade None contents made = Unit {0}
-CommandIsMade (Some invocation) contents made = IsMade (flags_by invocation made) contents invocation.file
+CommandIsMade (Some invocation) contents made = IsMade (flags_by invocation made) contents (main_of_invocation invocation)
 
 -- this holds of what a command stands for, with what synthesis comes to; where the input failed or memory ran out it is not known to what that would be, and this
 -- holds with all

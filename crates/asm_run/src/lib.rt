@@ -1,8 +1,8 @@
-//! From the words of a command line to the answer of a run.
+//! From what the words of a command line ask for to the answer of a run.
 #![tactic(auto)]
 
 mod running;
 mod saying;
-mod words;
+mod summary;
 
 pub use running::{deliver, run};

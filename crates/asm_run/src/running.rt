@@ -1,39 +1,53 @@
 //! One run, from the words of the command line to the answer.
 
 ghost use Rattle.std.specs.Prelude.{◌≡◌, ◌≤◌, ◌⊎◌, ◌↔◌, [], map, None, Some, IfOk, OnOk, OnErr, string_bytes};
-ghost use Rattle.std.specs.Io.KnownBytes.{IsAtEnd};
+ghost use Rattle.std.specs.Option.{option_map};
 ghost use Rattle.asm_base.specs.Counts.{HasCause, HasRisen, IsQuiet};
-ghost use Rattle.asm_run.specs.Words.{command_of, file_of, output_of};
-ghost use Rattle.asm_run.specs.Invoked.{invoked};
+ghost use Rattle.asm_front.specs.Sources.{main_of};
+ghost use Rattle.run_words.specs.Words.{command_of};
+ghost use Rattle.run_words.specs.Invoked.{invoked};
 ghost use Rattle.asm_front.specs.Synthesis.{Synthesis};
-ghost use Rattle.asm_run.specs.Outcome.{CommandHolds, CommandIsMade, invocation_outcome, outcome};
+ghost use Rattle.asm_run.specs.Outcome.{CommandHolds, CommandIsMade, invocation_outcome, main_of_command, main_of_invocation, outcome};
 ghost use Rattle.asm_run.specs.Readable.{CommandIsReadable, InvocationIsReadable};
 ghost use Rattle.asm_run.specs.ReadsBack.{CommandReadsBack};
 ghost use Rattle.asm_run.specs.Recovers.{CommandRecovers};
-ghost use Rattle.asm_run.specs.Answers.{Answers, Completes, CountsMissingOutcome, MakesFile, MakesFileInPart, MakesInPart, MakesObject, ReadsAll, StartsFront};
+ghost use Rattle.asm_run.specs.Answers.{Answers, Completes, CountsMissingOutcome, MakesFile, MakesFileInPart, MakesInPart, MakesObject, ReadsAll, ReadsToEnd, StartsFront};
 
-use crate::saying::say_all;
-use crate::words::{Invocation, read_command};
-use asm_base::{Channel, Console, Failed, Inputs, NoMemory, Output, Status, refusal, remarks};
-use asm_front::{AsmFault, Options, assemble, synthesis_is_one, written_reads_back};
+use crate::saying::{say_all, say_report};
+use crate::summary::report_of;
+use asm_base::{Channel, Console, Failed, Inputs, NoMemory, Output, Status, refusal};
+use asm_front::{AsmFault, Main, Options, assemble, synthesis_is_one, written_reads_back};
 use elf_object::Object;
+use load_text::{loads_are_bytes, self_load};
 use recovery_laws::objects_recover;
+use run_words::{Invocation, read_command};
 use std::alloc::{AllocError, Global};
 
 /// What is said where the words are no command.
 const USAGE: &[u8] =
     b"usage: as [-o FILE] [--64] [--scfi=experimental] [-W|--no-warn] [--fatal-warnings] [--self-load N] [FILE]\n";
 
+/// The main source that is asked for: one that is made here, or that of a file.
+fn main_for(alloc: Global, invocation: Invocation) -> Result<Main, NoMemory>
+    ensures { IfOk result (λ main. main_of main ≡ main_of_invocation (invoked invocation.entry)) }
+{
+    match invocation.self_load {
+        Some(functions) => Ok(Main::Given(self_load(alloc, functions)?)),
+        None => Ok(Main::File(String::from_str(alloc, invocation.file)?)),
+    }
+}
+
 /// What the assembler is asked for.
 fn options_for(alloc: Global, invocation: Invocation) -> Result<Options, NoMemory>
-    ensures file { IfOk result (λ options. string_bytes options.file ≡ invocation.entry.file.now) }
+    ensures source { IfOk result (λ options.
+        main_of options.source ≡ main_of_invocation (invoked invocation.entry)) }
     ensures no_warn { IfOk result (λ options. options.no_warn ≡ invocation.entry.no_warn) }
     ensures scfi { IfOk result (λ options. options.scfi ≡ invocation.entry.scfi) }
     ensures fatal_warnings { IfOk result (λ options.
         options.fatal_warnings ≡ invocation.entry.fatal_warnings) }
 {
     Ok(Options {
-        file: String::from_str(alloc, invocation.file)?,
+        source: main_for(alloc, invocation)?,
         scfi: invocation.scfi,
         no_warn: invocation.no_warn,
         fatal_warnings: invocation.fatal_warnings,
@@ -53,28 +67,31 @@ fn make_object<O: Output>(name: &str, object: &Object, obj: &mut O) -> Result<()
     obj.finish()
 }
 
-/// Says the messages, and only then makes the file of this name with the object. It is given no allocator and has no answer for want of
-/// memory: none is taken from the first message to the end of the file.
+/// Says the messages and the summary, if there is one, and only then makes the file of this name with the object. It is given no allocator and
+/// has no answer for want of memory: none is taken from the first message to the end of the file.
 #[tactic(auto, using(crate::proofs::Deliveries::delivered_in_part))]
 pub fn deliver<O: Output, C: Console>(
     name: &str,
     object: &Object,
     messages: &[u8],
+    summary: Option<&[u8]>,
     obj: &mut O,
     con: &mut C,
 ) -> Result<(), Failed>
-    ensures ok { OnOk result (MakesObject name.now object.now messages.now (record {
-      said = C.said con.old;
-      said_after = C.said con.new;
-      made = O.made obj.old;
-      made_after = O.made obj.new;
-    })) }
-    ensures err { OnErr result (MakesInPart name.now object.now messages.now (record {
-      said = C.said con.old;
-      said_after = C.said con.new;
-      made = O.made obj.old;
-      made_after = O.made obj.new;
-    })) }
+    ensures ok { OnOk result (MakesObject name.now object.now messages.now
+        (option_map (λ text. text.now) summary.entry) (record {
+          said = C.said con.old;
+          said_after = C.said con.new;
+          made = O.made obj.old;
+          made_after = O.made obj.new;
+        })) }
+    ensures err { OnErr result (MakesInPart name.now object.now messages.now
+        (option_map (λ text. text.now) summary.entry) (record {
+          said = C.said con.old;
+          said_after = C.said con.new;
+          made = O.made obj.old;
+          made_after = O.made obj.new;
+        })) }
     ensures cause { OnErr result
         (HasRisen (O.faults obj.old) (O.faults obj.new) ⊎ HasRisen (C.faults con.old) (C.faults con.new)) }
     ensures output_quiet { OnOk result (O.faults obj.new ≡ O.faults obj.old) }
@@ -82,7 +99,7 @@ pub fn deliver<O: Output, C: Console>(
     ensures output_count { O.faults obj.old ≤ O.faults obj.new }
     ensures console_count { C.faults con.old ≤ C.faults con.new }
 {
-    say_all(con, Channel::Err, messages)?;
+    say_report(con, messages, summary)?;
     make_object(name, object, obj)
 }
 
@@ -96,7 +113,7 @@ fn run_source<I: Inputs, O: Output, C: Console>(
     con: &mut C,
 ) -> Status
     ensures answer { CommandHolds (Some (invoked invocation.entry)) (I.contents ins.old) result
-        (λ made outcome. Answers invocation.entry.object.now outcome result (record {
+        (λ made outcome. Answers (Some (invoked invocation.entry)) outcome result (record {
           said = C.said con.old;
           said_after = C.said con.new;
           made = O.made obj.old;
@@ -124,26 +141,31 @@ fn run_source<I: Inputs, O: Output, C: Console>(
         (I.missing ins.old) (I.missing ins.new) }
     ensures taken { I.taken ins.old ≤ I.taken ins.new }
     ensures contents { I.contents ins.new ≡ I.contents ins.old }
-    ensures whole { result ≡ Status.Done → IsAtEnd (I.rest ins.new) }
+    ensures whole { result ≡ Status.Done
+        → ReadsToEnd (main_of_invocation (invoked invocation.entry)) (I.rest ins.old) (I.rest ins.new) }
     ensures starts { (made : Synthesis) → StartsFront
         (invocation_outcome (invoked invocation.entry) made (I.contents ins.old))
-        invocation.entry.file.now
+        (main_of_invocation (invoked invocation.entry))
         (I.history ins.old) (I.history ins.new) (I.taken ins.old) (I.taken ins.new) }
     ensures reads { result ≡ Status.Done
         → CommandHolds (Some (invoked invocation.entry)) (I.contents ins.old) result (λ made outcome.
-        ReadsAll outcome invocation.entry.file.now
+        ReadsAll outcome (main_of_invocation (invoked invocation.entry))
         (I.history ins.old) (I.history ins.new) (I.taken ins.old) (I.taken ins.new)) }
 {
     let options = match options_for(alloc, invocation) {
         Ok(options) => options,
         Err(_) => return Status::NoMemory,
     };
-    match assemble(alloc, &options, ins) {
-        Ok(made) => match remarks(alloc, made.notes.as_slice(), &made.files) {
-            Ok(text) => match deliver(invocation.object, &made.object, text.as_slice(), obj, con) {
-                Ok(()) => Status::Done,
-                Err(Failed) => Status::WriteFault,
-            },
+    match assemble(alloc, options, ins) {
+        Ok(made) => match report_of(alloc, invocation.self_load, &made) {
+            Ok(report) => {
+                let messages = report.messages.as_slice();
+                let summary = report.summary_bytes();
+                match deliver(invocation.object, &made.object, messages, summary, obj, con) {
+                    Ok(()) => Status::Done,
+                    Err(Failed) => Status::WriteFault,
+                }
+            }
             Err(_) => Status::NoMemory,
         },
         Err(AsmFault::Source(fault, pos, notes, files)) => {
@@ -161,7 +183,7 @@ fn run_source<I: Inputs, O: Output, C: Console>(
 }
 
 /// Reads the words, assembles the source that they name, says the messages, and makes the object.
-#[tactic(auto, unfolding(crate::specs::Words::usage_text), using(crate::proofs::OneOutcome::command_is_one, crate::proofs::ReadsBackAgain::command_reads_back, crate::proofs::RecoversAgain::command_recovers, crate::proofs::StandingOutcomes::completes, crate::proofs::StandingOutcomes::memory_lost, crate::proofs::StandingOutcomes::usage_said, crate::proofs::StandingOutcomes::usage_cut, crate::proofs::StartedFiles::starts_none))]
+#[tactic(auto, unfolding(run_words::specs::Words::usage_text), using(crate::proofs::OneOutcome::command_is_one, crate::proofs::ReadsBackAgain::command_reads_back, crate::proofs::RecoversAgain::command_recovers, crate::proofs::StandingOutcomes::completes, crate::proofs::StandingOutcomes::memory_lost, crate::proofs::StandingOutcomes::usage_said, crate::proofs::StandingOutcomes::usage_cut, crate::proofs::StartedFiles::starts_none))]
 pub fn run<I: Inputs, O: Output, C: Console>(
     alloc: Global,
     words: &Vec<String>,
@@ -177,7 +199,7 @@ pub fn run<I: Inputs, O: Output, C: Console>(
         ≡ outcome (map string_bytes words.now.items) other (I.contents ins.old) }
     ensures answer { CommandHolds (command_of (map string_bytes words.now.items))
         (I.contents ins.old) result (λ made outcome.
-        Answers (output_of (command_of (map string_bytes words.now.items))) outcome result (record {
+        Answers (command_of (map string_bytes words.now.items)) outcome result (record {
           said = C.said con.old;
           said_after = C.said con.new;
           made = O.made obj.old;
@@ -236,20 +258,24 @@ pub fn run<I: Inputs, O: Output, C: Console>(
         (I.missing ins.old) (I.missing ins.new) }
     ensures taken { I.taken ins.old ≤ I.taken ins.new }
     ensures contents { I.contents ins.new ≡ I.contents ins.old }
-    ensures whole { result ≡ Status.Done → IsAtEnd (I.rest ins.new) }
+    ensures whole { result ≡ Status.Done
+        → ReadsToEnd (main_of_command (command_of (map string_bytes words.now.items)))
+        (I.rest ins.old) (I.rest ins.new) }
     ensures starts { (made : Synthesis)
         → StartsFront (outcome (map string_bytes words.now.items) made (I.contents ins.old))
-        (file_of (command_of (map string_bytes words.now.items)))
+        (main_of_command (command_of (map string_bytes words.now.items)))
         (I.history ins.old) (I.history ins.new) (I.taken ins.old) (I.taken ins.new) }
     ensures reads { result ≡ Status.Done
         → CommandHolds (command_of (map string_bytes words.now.items)) (I.contents ins.old) result
-        (λ made outcome. ReadsAll outcome (file_of (command_of (map string_bytes words.now.items)))
+        (λ made outcome. ReadsAll outcome
+        (main_of_command (command_of (map string_bytes words.now.items)))
         (I.history ins.old) (I.history ins.new) (I.taken ins.old) (I.taken ins.new)) }
     ensures usage_reads_nothing { command_of (map string_bytes words.now.items) ≡ None
         → ins.new ≡ ins.old }
 {
     written_reads_back();
     objects_recover();
+    loads_are_bytes();
     synthesis_is_one();
     match read_command(alloc, words.as_slice()) {
         Ok(Some(invocation)) => run_source(alloc, invocation, ins, obj, con),

@@ -1,9 +1,10 @@
-//! All of a text said on a channel of a console.
+//! All of a text said on a channel of a console, and messages with a summary.
 
-ghost use Rattle.std.specs.Prelude.{◌≡◌, ℕ, ◌≤◌, length, take, OnOk};
+ghost use Rattle.std.specs.Prelude.{◌≡◌, ℕ, ◌≤◌, length, take, OnErr, OnOk};
 ghost use Rattle.std.specs.Option.{option_map};
 ghost use Rattle.asm_base.specs.Counts.{HasCause};
 ghost use Rattle.asm_base.specs.Console.{after_say};
+ghost use Rattle.asm_run.specs.Answers.{SaidAll, SaidInPart};
 
 use asm_base::{Channel, Console, Failed};
 
@@ -20,4 +21,24 @@ pub fn say_all<C: Console>(con: &mut C, to: Channel, text: &[u8]) -> Result<(), 
         at += con.say(to, &text[at..])?;
     }
     Ok(())
+}
+
+/// Says the messages on standard error, and then the summary, if there is one, on standard output. It takes no memory.
+#[tactic(auto, using(crate::proofs::Deliveries::front_said))]
+pub fn say_report<C: Console>(
+    con: &mut C,
+    messages: &[u8],
+    summary: Option<&[u8]>,
+) -> Result<(), Failed>
+    ensures ok { OnOk result (SaidAll messages.now
+        (option_map (λ text. text.now) summary.entry) (C.said con.old) (C.said con.new)) }
+    ensures err { OnErr result (SaidInPart messages.now
+        (option_map (λ text. text.now) summary.entry) (C.said con.old) (C.said con.new)) }
+    ensures cause { HasCause (C.faults con.old) (C.faults con.new) result }
+{
+    say_all(con, Channel::Err, messages)?;
+    match summary {
+        Some(text) => say_all(con, Channel::Out, text),
+        None => Ok(()),
+    }
 }
