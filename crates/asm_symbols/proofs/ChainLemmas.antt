@@ -1,18 +1,18 @@
 -- Chains of places by the hashes of what stands there.
-use Rattle.std.proofs.Common.{◌≡◌, ◌≢◌, true≢false, ℕ, zero, suc, ◌+◌, ◌-◌, ◌^◌, ◌==◌, ◌<◌, ◌≤◌, ◌⊎◌, inl, inr, Bool, true, false, cond, ◌&&◌, List, [], ◌∷◌, ◌++◌, length, map, set, replicate, Option, None, Some, refl, sym, ap, ◌∙◌, arith, eq-eqb, slice_get, length-append}
+use Rattle.std.proofs.Common.{◌≡◌, ◌≢◌, true≢false, ℕ, zero, suc, ◌+◌, ◌-◌, ◌^◌, ◌==◌, ◌<◌, ◌≤◌, ◌⊎◌, inl, inr, Bool, true, false, cond, ◌&&◌, List, [], ◌∷◌, ◌++◌, length, set, replicate, Option, None, Some, refl, sym, ap, ◌∙◌, arith, eq-eqb, slice_get, length-append}
 use Rattle.std.specs.Option.{option_map}
 use Rattle.std.proofs.lemmas.Bool.{eqb-true}
 use Rattle.std.proofs.lemmas.List.{length-map, map-append}
 use Rattle.std.proofs.lemmas.Option.{slice_get-map, slice_get_within, same_Some}
 use Rattle.std.proofs.lemmas.Nat.{and_le_r}
 use Rattle.asm_expr.specs.declared.naming.Name.{Name}
-use Rattle.asm_expr.specs.declared.naming.Name.TheVariants.{Plain}
-use Rattle.asm_symbols.specs.declared.text_index.Link.{Link}
+use Rattle.asm_expr.specs.declared.naming.Name.TheVariants as naming
+use Rattle.asm_symbols.specs.declared.name_chains.Link.{Link}
 use Rattle.asm_expr.specs.Names.{same_name}
 use Rattle.asm_symbols.specs.SymbolMap.{index_of}
-use Rattle.asm_symbols.specs.TextIndex.{IsHashOf, chain_of, is_in, last_in, hashes_of, AreChained, IsHashedAt, AreHashed}
+use Rattle.asm_symbols.specs.NameChains.{HasHash, chain_of, is_in, last_in, hashes_of, AreChained, AreHashed}
 use Rattle.asm_symbols.specs.Sound.{AreFound}
-use Rattle.asm_symbols.proofs.SameNames.{own_bytes, same_from_test}
+use Rattle.asm_symbols.proofs.SameNames.{own_name, same_from_test}
 use Rattle.asm_symbols.proofs.IndexLemmas.{slice_get-index_of}
 
 both : (a b : Bool) → (a && b) ≡ true → (a ≡ true) × (b ≡ true)
@@ -114,9 +114,11 @@ module _ (count chain : ℕ) where
   last_in-before hashes more zero few = refl
   last_in-before hashes more (suc n) few = rw (slice_get-before hashes more n (omega arith), last_in-before hashes more n (omega arith)) refl
 
--- a text has one hash
-pub one_hash : (text : List ℕ) (hash other : ℕ) → IsHashOf text hash → IsHashOf text other → hash ≡ other
-one_hash text hash other one two = let same : one.start ≡ two.start = one.begins ∙ sym two.begins in one.value ∙ rw same (sym two.value)
+-- a name has one hash
+pub one_hash : (name : Name) (hash other : ℕ) → HasHash name hash → HasHash name other → hash ≡ other
+one_hash (naming.Plain text) hash other one two = let same : one.start ≡ two.start = one.begins ∙ sym two.begins in one.value ∙ rw same (sym two.value)
+one_hash (naming.Numeric number instance) hash other one two = one ∙ sym two
+one_hash (naming.Place section item offset) hash other one two = one ∙ sym two
 
 -- one of two numbers is the smaller, or they are one
 number_before : (a b : ℕ) → (a < b) ⊎ (b ≤ a)
@@ -125,22 +127,22 @@ number_before zero (suc b) = inl (omega arith)
 number_before (suc a) zero = inr (omega arith)
 number_before (suc a) (suc b) = elim (number_before a b) [ inl less ↦ inl (omega arith) | inr more ↦ inr (omega arith) ]
 
--- what is known of a search for a text from the place of a number on
-pub record IsSearching (ns : List Name) (hashes : List ℕ) (count : ℕ) (text : List ℕ) (hash number : ℕ) : Type 0 where
+-- what is known of a search for a name from the place of a number on
+pub record IsSearching (ns : List Name) (hashes : List ℕ) (count : ℕ) (name : Name) (hash number : ℕ) : Type 0 where
   pub within : number ≤ length hashes
   pub chained : (at : ℕ) (other : ℕ) → number ≡ suc at → slice_get hashes at ≡ Some other → chain_of count other ≡ chain_of count hash
-  pub absent : (at : ℕ) → number ≤ at → slice_get ns at ≡ Some (Plain text) → ⊥
+  pub absent : (at : ℕ) → number ≤ at → slice_get ns at ≡ Some name → ⊥
 
-module _ (links : List Link) (ns : List Name) (count : ℕ) (text : List ℕ) (hash : ℕ) (own : IsHashOf text hash) (hashed : AreHashed (hashes_of links) ns) where
+module _ (links : List Link) (ns : List Name) (count : ℕ) (name : Name) (hash : ℕ) (own : HasHash name hash) (hashed : AreHashed (hashes_of links) ns) where
   -- from the last of the first places of its chain on
-  absent_last : (n number : ℕ) → number ≡ last_in count (chain_of count hash) (hashes_of links) n → (at : ℕ) → number ≤ at → at < n → slice_get ns at ≡ Some (Plain text) → ⊥
+  absent_last : (n number : ℕ) → number ≡ last_in count (chain_of count hash) (hashes_of links) n → (at : ℕ) → number ≤ at → at < n → slice_get ns at ≡ Some name → ⊥
   absent_last n number is at behind inside there =
-      let held = hashed.texts at text there in
-      let same : held.hash ≡ hash = one_hash text held.hash hash held.own own in
+      let held = hashed.each at name there in
+      let same : held.hash ≡ hash = one_hash name held.hash hash held.own own in
       none_behind_last count (chain_of count hash) (hashes_of links) n at held.hash (rw (← is) behind) inside held.there (ap (chain_of count) same)
 
   pub searching_from : (n number : ℕ) → number ≡ last_in count (chain_of count hash) (hashes_of links) n → n ≤ length links
-      → ((at : ℕ) → n ≤ at → slice_get ns at ≡ Some (Plain text) → ⊥) → IsSearching ns (hashes_of links) count text hash number
+      → ((at : ℕ) → n ≤ at → slice_get ns at ≡ Some name → ⊥) → IsSearching ns (hashes_of links) count name hash number
   searching_from n number is few later =
       let long : length (hashes_of links) ≡ length links = simp length-map in
       let before : last_in count (chain_of count hash) (hashes_of links) n ≤ n = last_within count (chain_of count hash) (hashes_of links) n in
@@ -150,80 +152,80 @@ module _ (links : List Link) (ns : List Name) (count : ℕ) (text : List ℕ) (h
         absent = λ at behind there. by at (number_before at n) behind there;
       }
     where
-      by : (at : ℕ) → (at < n) ⊎ (n ≤ at) → number ≤ at → slice_get ns at ≡ Some (Plain text) → ⊥
+      by : (at : ℕ) → (at < n) ⊎ (n ≤ at) → number ≤ at → slice_get ns at ≡ Some name → ⊥
       by at (inl inside) behind there = absent_last n number is at behind inside there
       by at (inr past) behind there = later at past there
 
-module _ (heads : List ℕ) (links : List Link) (chained : AreChained heads links) (ns : List Name) (text : List ℕ) (hash : ℕ) (own : IsHashOf text hash) (hashed : AreHashed (hashes_of links) ns) where
-  past_all : (at : ℕ) → length links ≤ at → slice_get ns at ≡ Some (Plain text) → ⊥
+module _ (heads : List ℕ) (links : List Link) (chained : AreChained heads links) (ns : List Name) (name : Name) (hash : ℕ) (own : HasHash name hash) (hashed : AreHashed (hashes_of links) ns) where
+  past_all : (at : ℕ) → length links ≤ at → slice_get ns at ≡ Some name → ⊥
   past_all at past there =
       let long : length (hashes_of links) ≡ length links = simp length-map in
-      let inside = slice_get_within ns at (Plain text) there in
+      let inside = slice_get_within ns at name there in
       let all = hashed.long in
       omega arith
 
   -- the search begins at the head of the chain
-  pub searching_head : (number : ℕ) → slice_get heads (chain_of (length heads) hash) ≡ Some number → IsSearching ns (hashes_of links) (length heads) text hash number
+  pub searching_head : (number : ℕ) → slice_get heads (chain_of (length heads) hash) ≡ Some number → IsSearching ns (hashes_of links) (length heads) name hash number
   searching_head number there =
-      searching_from links ns (length heads) text hash own hashed (length links) number (chained.last (chain_of (length heads) hash) number there) (omega arith) past_all
+      searching_from links ns (length heads) name hash own hashed (length links) number (chained.last (chain_of (length heads) hash) number there) (omega arith) past_all
 
-  -- and goes on at the place before, where the text is not at this one
-  pub searching_next : (at : ℕ) (link : Link) → IsSearching ns (hashes_of links) (length heads) text hash (suc at) → slice_get links at ≡ Some link
-      → (slice_get ns at ≡ Some (Plain text) → ⊥) → IsSearching ns (hashes_of links) (length heads) text hash link.before
+  -- and goes on at the place before, where the name is not at this one
+  pub searching_next : (at : ℕ) (link : Link) → IsSearching ns (hashes_of links) (length heads) name hash (suc at) → slice_get links at ≡ Some link
+      → (slice_get ns at ≡ Some name → ⊥) → IsSearching ns (hashes_of links) (length heads) name hash link.before
   searching_next at link search there other =
       let held : slice_get (hashes_of links) at ≡ Some link.hash = slice_get-map (λ (l : Link). l.hash) links at ∙ ap (option_map (λ (l : Link). l.hash)) there in
       let same : chain_of (length heads) link.hash ≡ chain_of (length heads) hash = search.chained at link.hash refl held in
       let inside = slice_get_within links at link there in
-      searching_from links ns (length heads) text hash own hashed at link.before (rw same at (chained.before at link there)) (omega arith)
+      searching_from links ns (length heads) name hash own hashed at link.before (rw same at (chained.before at link there)) (omega arith)
       (λ place behind is. by place (number_before at place) behind is)
     where
-      by : (place : ℕ) → (at < place) ⊎ (place ≤ at) → at ≤ place → slice_get ns place ≡ Some (Plain text) → ⊥
+      by : (place : ℕ) → (at < place) ⊎ (place ≤ at) → at ≤ place → slice_get ns place ≡ Some name → ⊥
       by place (inl past) behind is = search.absent place (omega arith) is
       by place (inr before) behind is = let same : place ≡ at = omega arith in other (rw same at is)
 
--- a text that stands nowhere is not found
-pub searching_none : (ns : List Name) (hashes : List ℕ) (count : ℕ) (text : List ℕ) (hash number : ℕ) → IsSearching ns hashes count text hash number → number ≡ 0 → index_of (Plain text) ns ≡ None
-searching_none ns hashes count text hash number search none = by (index_of (Plain text) ns) refl
+-- a name that stands nowhere is not found
+pub searching_none : (ns : List Name) (hashes : List ℕ) (count : ℕ) (name : Name) (hash number : ℕ) → IsSearching ns hashes count name hash number → number ≡ 0 → index_of name ns ≡ None
+searching_none ns hashes count name hash number search none = by (index_of name ns) refl
   where
-    by : (o : Option ℕ) → index_of (Plain text) ns ≡ o → o ≡ None
+    by : (o : Option ℕ) → index_of name ns ≡ o → o ≡ None
     by None is = refl
-    by (Some at) is = absurd (search.absent at (omega arith) (slice_get-index_of (Plain text) ns at is))
+    by (Some at) is = absurd (search.absent at (omega arith) (slice_get-index_of name ns at is))
 
 -- the search begins at the head of the chain
-pub search_begins : (heads : List ℕ) (links : List Link) → AreChained heads links → (ns : List Name) (text : List ℕ) (hash count number : ℕ) → IsHashOf text hash → AreHashed (hashes_of links) ns
-    → count ≡ length heads → slice_get heads (chain_of (length heads) hash) ≡ Some number → IsSearching ns (hashes_of links) count text hash number
-search_begins heads links chained ns text hash count number own hashed all there = rw all (searching_head heads links chained ns text hash own hashed number there)
+pub search_begins : (heads : List ℕ) (links : List Link) → AreChained heads links → (ns : List Name) (name : Name) (hash count number : ℕ) → HasHash name hash → AreHashed (hashes_of links) ns
+    → count ≡ length heads → slice_get heads (chain_of (length heads) hash) ≡ Some number → IsSearching ns (hashes_of links) count name hash number
+search_begins heads links chained ns name hash count number own hashed all there = rw all (searching_head heads links chained ns name hash own hashed number there)
 
 -- a step of the search, at the place before a number
-module _ (heads : List ℕ) (links : List Link) (chained : AreChained heads links) (ns : List Name) (text : List ℕ) (hash count number : ℕ) (name : Name) (link : Link)
-    (own : IsHashOf text hash) (hashed : AreHashed (hashes_of links) ns) (all : count ≡ length heads) (some : 0 < number)
-    (there : slice_get links (number - 1) ≡ Some link) (here : slice_get ns (number - 1) ≡ Some name) where
-  -- where the text does not stand there, it goes on
-  not_there : (link.hash == hash && same_name (Plain text) name) ≡ false → slice_get ns (number - 1) ≡ Some (Plain text) → ⊥
+module _ (heads : List ℕ) (links : List Link) (chained : AreChained heads links) (ns : List Name) (name : Name) (hash count number : ℕ) (stands : Name) (link : Link)
+    (own : HasHash name hash) (hashed : AreHashed (hashes_of links) ns) (all : count ≡ length heads) (some : 0 < number)
+    (there : slice_get links (number - 1) ≡ Some link) (here : slice_get ns (number - 1) ≡ Some stands) where
+  -- where the name does not stand there, it goes on
+  not_there : (link.hash == hash && same_name name stands) ≡ false → slice_get ns (number - 1) ≡ Some name → ⊥
   not_there test is =
-      let held = hashed.texts (number - 1) text is in
-      let own_name_is : name ≡ Plain text = same_Some _ _ (sym here ∙ is) in
+      let held = hashed.each (number - 1) name is in
+      let own_name_is : stands ≡ name = same_Some _ _ (sym here ∙ is) in
       let link_is : slice_get (hashes_of links) (number - 1) ≡ Some link.hash = slice_get-map (λ (l : Link). l.hash) links (number - 1) ∙ ap (option_map (λ (l : Link). l.hash)) there in
       let hash_is : link.hash ≡ held.hash = same_Some _ _ (sym link_is ∙ held.there) in
-      let same : link.hash ≡ hash = hash_is ∙ one_hash text held.hash hash held.own own in
-      true≢false (sym (rw (own_name_is, eq-eqb link.hash hash same) (own_bytes text)) ∙ test)
+      let same : link.hash ≡ hash = hash_is ∙ one_hash name held.hash hash held.own own in
+      true≢false (sym (rw (own_name_is, eq-eqb link.hash hash same) (own_name name)) ∙ test)
 
-  pub search_on : IsSearching ns (hashes_of links) count text hash number → (link.hash == hash && same_name (Plain text) name) ≡ false → IsSearching ns (hashes_of links) count text hash link.before
+  pub search_on : IsSearching ns (hashes_of links) count name hash number → (link.hash == hash && same_name name stands) ≡ false → IsSearching ns (hashes_of links) count name hash link.before
   search_on search test =
       let one : number ≡ suc (number - 1) = omega arith in
-      rw all (searching_next heads links chained ns text hash own hashed (number - 1) link (rw (← one, ← all) search) there (not_there test))
+      rw all (searching_next heads links chained ns name hash own hashed (number - 1) link (rw (← one, ← all) search) there (not_there test))
 
-  pub search_smaller : IsSearching ns (hashes_of links) count text hash number → link.before < number
+  pub search_smaller : IsSearching ns (hashes_of links) count name hash number → link.before < number
   search_smaller search =
       let before = chained.before (number - 1) link there in
       let few = last_within (length heads) (chain_of (length heads) link.hash) (hashes_of links) (number - 1) in
       omega (arith, before, few)
 
   -- where it stands there, it is found
-  pub search_found : AreFound ns → (link.hash == hash && same_name (Plain text) name) ≡ true → Some (number - 1) ≡ index_of (Plain text) ns
+  pub search_found : AreFound ns → (link.hash == hash && same_name name stands) ≡ true → Some (number - 1) ≡ index_of name ns
   search_found apart test =
-      let same = (both (link.hash == hash) (same_name (Plain text) name) test).1 in
-      sym (apart (number - 1) (Plain text) (here ∙ ap Some (sym (same_from_test (Plain text) name same))))
+      let same = (both (link.hash == hash) (same_name name stands) test).1 in
+      sym (apart (number - 1) name (here ∙ ap Some (sym (same_from_test name stands same))))
 
 -- one place more in the chain of its hash
 module _ (heads : List ℕ) (links : List Link) (chained : AreChained heads links) (link : Link) where

@@ -7,7 +7,6 @@ use Rattle.asm_expr.specs.Names.{same_name}
 use Rattle.asm_symbols.specs.declared.entries.Symbol.{Symbol}
 use Rattle.asm_symbols.specs.SymbolMap.{names, changed}
 use Rattle.asm_symbols.specs.Assigning.{NoFormLeadsBack}
-use Rattle.asm_symbols.specs.NameIndex.{IndexedNames}
 use Rattle.asm_symbols.specs.Sound.{means_label, is_label_of, AreCounted, IsSound}
 
 both : (a b : Bool) → (a && b) ≡ true → (a ≡ true) × (b ≡ true)
@@ -64,7 +63,7 @@ module _ (change : Symbol → Symbol) where
         (sound.labels number instance some within);
   }
 
-  pub IsSound-changed : ((symbol : Symbol) → (change symbol).name ≡ symbol.name) → (index : IndexedNames) (symbols : List Symbol) (files : List Name) (counts : List (ℕ × ℕ)) (bytes at : ℕ)
+  pub IsSound-changed : ((symbol : Symbol) → (change symbol).name ≡ symbol.name) → (index : List ℕ) (symbols : List Symbol) (files : List Name) (counts : List (ℕ × ℕ)) (bytes at : ℕ)
       → KeepsLabels symbols at → NoFormLeadsBack (changed change symbols at) → IsSound index symbols files counts bytes → IsSound index (changed change symbols at) files counts bytes
   IsSound-changed keeps index symbols files counts bytes at labels forward sound =
       let same = names-changed keeps symbols at in

@@ -1,5 +1,5 @@
 -- The counted instances of numeric labels are symbols.
-use Rattle.std.proofs.Common.{◌≡◌, ◌≢◌, ℕ, ◌+◌, ◌<◌, ◌≤◌, Bool, true, false, cond, ◌&&◌, ◌||◌, List, [], ◌∷◌, Option, None, Some, IsNone, nat_eq, unwrap_or, eq-eqb, refl, sym, ap, ◌∙◌, arith}
+use Rattle.std.proofs.Common.{◌≡◌, ◌≢◌, ℕ, ◌+◌, ◌<◌, ◌≤◌, Bool, true, false, cond, ◌&&◌, ◌||◌, List, [], ◌∷◌, Option, None, Some, IsNone, nat_eq, unwrap_or, eq-eqb, refl, sym, ap, ◌∙◌, arith, true≢false}
 use Rattle.std.specs.List.{list_any}
 use Rattle.std.proofs.lemmas.Bool.{eqb-true}
 use Rattle.std.proofs.lemmas.Bool.Decides.{nat_tests}
@@ -12,7 +12,6 @@ use Rattle.asm_expr.specs.Names.{same_name}
 use Rattle.asm_symbols.specs.declared.entries.Symbol.{Symbol}
 use Rattle.asm_symbols.specs.SymbolMap.{names, index_of}
 use Rattle.asm_symbols.specs.Counting.{counted}
-use Rattle.asm_symbols.proofs.IndexLemmas.{lookup-insert}
 use Rattle.asm_symbols.specs.Sound.{means_label, is_label_of, AreCounted}
 
 none_behind : (o : Option ℕ) → option_map (λ i. i + 1) o ≡ None → o ≡ None
@@ -36,6 +35,29 @@ pub none_exactly : (found : Option ℕ) (symbols : List Symbol) (counts : List (
 none_exactly None symbols counts number instance sound count some is =
     absurd (label_stands (naming.Numeric number instance) symbols (sound.labels number instance (omega arith) (omega arith)) (sym is))
 none_exactly (Some at) symbols counts number instance sound count some is = (λ none. cc, λ zero. absurd (some (count ∙ zero)))
+
+twice : {X : Type 0} (b : Bool) (x y z : X) → cond b x y ≡ cond b x (cond b z y)
+twice true x y z = refl
+twice false x y z = refl
+
+swapped : {X : Type 0} (a b : Bool) (x y z : X) → (a ≡ true → b ≡ true → ⊥) → cond a x (cond b y z) ≡ cond b y (cond a x z)
+swapped true true x y z apart = absurd (apart refl refl)
+swapped true false x y z apart = refl
+swapped false b x y z apart = refl
+
+module _ {K V : Type 0} (eq : K → K → Bool) (same : (a b : K) → eq a b ≡ true → a ≡ b) (own : (a : K) → eq a a ≡ true) where
+  inserted_first : (e : K × V) (es : List (K × V)) (k q : K) (v : V) (b : Bool) → eq k e.0 ≡ b
+      → lookup (eq q) (insert_entry eq es k v) ≡ cond (eq q k) (Some v) (lookup (eq q) es)
+      → lookup (eq q) (cond b ((e.0, v) ∷ es) (e ∷ insert_entry eq es k v)) ≡ cond (eq q k) (Some v) (cond (eq q e.0) (Some e.1) (lookup (eq q) es))
+  inserted_first e es k q v true is later = rw (same k e.0 is) (twice (eq q e.0) (Some v) (lookup (eq q) es) (Some e.1))
+  inserted_first e es k q v false is later =
+      ap (λ o. cond (eq q e.0) (Some e.1) o) later
+      ∙ swapped (eq q e.0) (eq q k) (Some e.1) (Some v) (lookup (eq q) es) (λ (one : eq q e.0 ≡ true) (other : eq q k ≡ true). true≢false (sym (own e.0) ∙ ap (λ x. eq x e.0) (sym (same q e.0 one) ∙ same q k other) ∙ is))
+
+  -- what is put is found under its key, and all else as before
+  pub lookup-insert : (es : List (K × V)) (k q : K) (v : V) → lookup (eq q) (insert_entry eq es k v) ≡ cond (eq q k) (Some v) (lookup (eq q) es)
+  lookup-insert [] k q v = refl
+  lookup-insert (e ∷ es) k q v = inserted_first e es k q v (eq k e.0) refl (lookup-insert es k q v)
 
 -- the count of a numeric label that is raised, and of all others
 counted-insert : (counts : List (ℕ × ℕ)) (number count other : ℕ) → counted (insert_entry nat_eq counts number count) other ≡ cond (nat_eq other number) count (counted counts other)

@@ -16,7 +16,6 @@ use Rattle.asm_symbols.specs.SymbolMap.{SymbolMap, changed, with_meaning}
 use Rattle.asm_symbols.specs.Counting.{counted, counts_after}
 use Rattle.asm_symbols.specs.Defining.{meant, redefined, defined}
 use Rattle.asm_symbols.specs.Assigning.{form_of}
-use Rattle.asm_symbols.specs.NameIndex.{IndexedNames}
 use Rattle.asm_symbols.specs.Sound.{means_label, is_label_of, AreCounted, IsSound}
 use Rattle.asm_symbols.proofs.SameNames.{own_name}
 use Rattle.asm_symbols.proofs.ChangeLemmas.{set_changed, IsSound-changed}
@@ -60,7 +59,7 @@ module _ (symbols : List Symbol) (at : ℕ) (old : Symbol) (there : slice_get sy
   counted_by (naming.Place section item offset) what counts name sound = sound
 
   -- what is no label and has no form is defined
-  pub IsSound-defined : (what : Definition) (index : IndexedNames) (files : List Name) (counts : List (ℕ × ℕ)) (bytes : ℕ) → means_label old.meaning ≡ false → form_of old.meaning ≡ None
+  pub IsSound-defined : (what : Definition) (index : List ℕ) (files : List Name) (counts : List (ℕ × ℕ)) (bytes : ℕ) → means_label old.meaning ≡ false → form_of old.meaning ≡ None
       → IsSound index symbols files counts bytes → IsSound index (changed (with_meaning (meant what)) symbols at) files (counts_after old.name what counts) bytes
   IsSound-defined what index files counts bytes plain unassigned sound =
       let keeps : KeepsForm (with_meaning (meant what)) symbols at = λ symbol is. let same : symbol ≡ old = cc in formless what ∙ sym (rw same unassigned) in
@@ -94,7 +93,7 @@ redefined_then (meaning.Assigned form) (definition.Space spot) made is = cc
 module _ (symbols : List Symbol) (at : ℕ) (first second third : Symbol) (there : at < length symbols) (one : first ≡ get_or symbols at first) (two : second ≡ get_or symbols at second)
     (three : third ≡ get_or symbols at third) (what : Definition) (made : Meaning) (is : redefined first.meaning what ≡ Ok made) (files : List Name) (sizes : ℕ) (counts new : List (ℕ × ℕ)) (grown : new ≡ counts_after second.name what counts) where
   -- the fields stay sound
-  pub define_sound : (index : IndexedNames) (bytes : ℕ) → IsSound index symbols files counts bytes → IsSound index (set symbols at (with_meaning made third)) files new bytes
+  pub define_sound : (index : List ℕ) (bytes : ℕ) → IsSound index symbols files counts bytes → IsSound index (set symbols at (with_meaning made third)) files new bytes
   define_sound index bytes sound =
       let parts = redefined_then first.meaning what made is in
       let same = same_read symbols at first second there one two in

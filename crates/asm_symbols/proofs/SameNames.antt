@@ -1,14 +1,11 @@
 -- The tests of names decide whether two are one.
-use Rattle.std.proofs.Common.{◌≡◌, ℕ, ◌==◌, Bool, true, false, ◌&&◌, List, refl, ap, ◌∙◌, eq-eqb}
+use Rattle.std.proofs.Common.{◌≡◌, ℕ, ◌==◌, Bool, true, false, ◌&&◌, List, refl, ap, eq-eqb}
 use Rattle.std.proofs.lemmas.Bool.{eqb-true}
 use Rattle.std.specs.Str.{bytes_eq}
 use Rattle.std.specs.Cmp.Lexicographic.{bytes_decides}
 use Rattle.asm_expr.specs.declared.naming.Name.{Name}
 use Rattle.asm_expr.specs.declared.naming.Name.TheVariants as naming
 use Rattle.asm_expr.specs.Names.{same_name}
-use Rattle.asm_symbols.specs.declared.name_index.NumericLabel.{NumericLabel}
-use Rattle.asm_symbols.specs.declared.name_index.SectionPlace.{SectionPlace}
-use Rattle.asm_symbols.specs.NameIndex.{same_label, same_place, label_of, place_behind}
 
 both : (a b : Bool) → (a && b) ≡ true → (a ≡ true) × (b ≡ true)
 both true true is = (refl, refl)
@@ -27,25 +24,6 @@ own_pair a b = rw (eq-eqb a a refl, eq-eqb b b refl)
 
 own_three : (a b c : ℕ) → (a == a && b == b && c == c) ≡ true
 own_three a b c = rw (eq-eqb a a refl, eq-eqb b b refl, eq-eqb c c refl)
-
--- instances of numeric labels
-pub label_from_test : (a b : NumericLabel) → same_label a b ≡ true → a ≡ b
-label_from_test a b is = let parts = both (a.number == b.number) (a.instance == b.instance) is in ap (λ n. label_of n a.instance) (eqb-true a.number b.number parts.0) ∙ ap (label_of b.number) (eqb-true a.instance b.instance parts.1)
-
-pub own_label : (a : NumericLabel) → same_label a a ≡ true
-own_label a = own_pair a.number a.instance
-
--- places
-pub place_from_test : (a b : SectionPlace) → same_place a b ≡ true → a ≡ b
-place_from_test a b is =
-    let parts = both (a.section == b.section && a.item == b.item) (a.offset == b.offset) is in
-    let pair = both (a.section == b.section) (a.item == b.item) parts.0 in
-    ap (λ s. place_behind s a.item a.offset) (eqb-true a.section b.section pair.0)
-    ∙ ap (λ i. place_behind b.section i a.offset) (eqb-true a.item b.item pair.1)
-    ∙ ap (place_behind b.section b.item) (eqb-true a.offset b.offset parts.1)
-
-pub own_place : (a : SectionPlace) → same_place a a ≡ true
-own_place a = own_three a.section a.item a.offset
 
 -- all names
 pub same_from_test : (a b : Name) → same_name a b ≡ true → a ≡ b

@@ -1,5 +1,5 @@
 -- The fields of a symbol map stay sound where a name more comes.
-use Rattle.std.proofs.Common.{◌≡◌, ℕ, zero, suc, ◌+◌, ◌^◌, ◌<◌, ◌⊎◌, inl, inr, Bool, true, false, cond, ◌||◌, List, [], ◌∷◌, ◌++◌, length, None, Some, refl, sym, ap, ◌∙◌, arith, slice_get, length-append}
+use Rattle.std.proofs.Common.{◌≡◌, ℕ, ◌+◌, ◌^◌, ◌<◌, ◌⊎◌, inl, inr, ◌||◌, List, [], ◌∷◌, ◌++◌, length, None, Some, ap, ◌∙◌, arith, slice_get, length-append}
 use Rattle.std.specs.List.{list_any, sum_by}
 use Rattle.std.proofs.lemmas.List.Folds.{list_any-append}
 use Rattle.std.proofs.lemmas.List.Sums.{sum_by-append}
@@ -7,54 +7,41 @@ use Rattle.std.proofs.lemmas.List.{length-map, map-append}
 use Rattle.std.proofs.lemmas.Option.{slice_get_within}
 use Rattle.asm_expr.specs.declared.naming.Name.{Name}
 use Rattle.asm_expr.specs.declared.naming.Name.TheVariants as naming
-use Rattle.asm_expr.specs.Names.{same_name}
 use Rattle.asm_symbols.specs.declared.entries.Symbol.{Symbol}
 use Rattle.asm_symbols.specs.SymbolMap.{names, index_of}
 use Rattle.asm_symbols.specs.Interning.{name_size, undefined}
-use Rattle.asm_symbols.specs.NameIndex.{IndexedNames, is_text, place_of, with_place}
-use Rattle.asm_symbols.specs.TextIndex.{HasHash, IsHashedAt, AreHashed}
+use Rattle.asm_symbols.specs.NameChains.{HasHash, IsHashedAt, AreHashed}
 use Rattle.asm_symbols.specs.Sound.{IsIndexed, AreNumbered, is_label_of, AreCounted, IsSound}
-use Rattle.asm_symbols.proofs.SameNames.{same_from_test}
 use Rattle.asm_symbols.proofs.ChainLemmas.{one_of_more, slice_get-before, slice_get-last}
 use Rattle.asm_symbols.proofs.ForwardLemmas.{forward_push}
-use Rattle.asm_symbols.proofs.IndexLemmas.{place_of-with_place, index_of-last, index_of-other, index_of-stays}
+use Rattle.asm_symbols.proofs.IndexLemmas.{index_of-last, index_of-stays}
 
-module _ (index : IndexedNames) (ns : List Name) (name : Name) (hash : ℕ) (own : HasHash name hash) (sound : IsIndexed index ns) (new : index_of name ns ≡ None) where
-  found_by : (other : Name) (b : Bool) → is_text other ≡ false → same_name other name ≡ b → cond b (Some (length ns)) (place_of index other) ≡ index_of other (ns ++ name ∷ [])
-  found_by other true plain is = let same : other ≡ name = same_from_test other name is in rw same (sym (index_of-last name ns new))
-  found_by other false plain is = sound.found other plain ∙ sym (index_of-other name other ns is)
-
+module _ (hashes : List ℕ) (ns : List Name) (name : Name) (hash : ℕ) (own : HasHash name hash) (sound : IsIndexed hashes ns) (new : index_of name ns ≡ None) where
   apart_by : (at : ℕ) (other : Name) → (slice_get ns at ≡ Some other) ⊎ ((at ≡ length ns) × (other ≡ name)) → index_of other (ns ++ name ∷ []) ≡ Some at
   apart_by at other (inl there) = index_of-stays other ns (name ∷ []) at (sound.apart at other there)
   apart_by at other (inr last) = rw (last.0, last.1) (index_of-last name ns new)
 
-  hashed_by : (at : ℕ) (text : List ℕ) → (slice_get ns at ≡ Some (naming.Plain text)) ⊎ ((at ≡ length ns) × (naming.Plain text ≡ name)) → IsHashedAt (index.texts ++ hash ∷ []) at text
-  hashed_by at text (inl there) =
-      let held = sound.hashed.texts at text there in
-      let inside = slice_get_within index.texts at held.hash held.there in
-      record { hash = held.hash; there = slice_get-before index.texts (hash ∷ []) at inside ∙ held.there; own = held.own }
-  hashed_by at text (inr last) = record {
+  hashed_by : (at : ℕ) (other : Name) → (slice_get ns at ≡ Some other) ⊎ ((at ≡ length ns) × (other ≡ name)) → IsHashedAt (hashes ++ hash ∷ []) at other
+  hashed_by at other (inl there) =
+      let held = sound.hashed.each at other there in
+      let inside = slice_get_within hashes at held.hash held.there in
+      record { hash = held.hash; there = slice_get-before hashes (hash ∷ []) at inside ∙ held.there; own = held.own }
+  hashed_by at other (inr last) = record {
     hash = hash;
-    there = rw (last.0, ← sound.hashed.long) (slice_get-last index.texts hash);
+    there = rw (last.0, ← sound.hashed.long) (slice_get-last hashes hash);
     own = rw (← last.1) at own;
   }
 
-  texts_more : (other : Name) (place : ℕ) → (with_place index other hash place).texts ≡ index.texts ++ hash ∷ []
-  texts_more (naming.Plain text) place = refl
-  texts_more (naming.Numeric number instance) place = refl
-  texts_more (naming.Place section item offset) place = refl
-
-  hashed_more : AreHashed (index.texts ++ hash ∷ []) (ns ++ name ∷ [])
+  hashed_more : AreHashed (hashes ++ hash ∷ []) (ns ++ name ∷ [])
   hashed_more =
-      let one = length-append index.texts (hash ∷ []) in
+      let one = length-append hashes (hash ∷ []) in
       let other = length-append ns (name ∷ []) in
       let long = sound.hashed.long in
-      record { long = omega arith; texts = λ at text there. hashed_by at text (one_of_more ns name (naming.Plain text) at there) }
+      record { long = omega arith; each = λ at other there. hashed_by at other (one_of_more ns name other at there) }
 
-  pub IsIndexed-push : IsIndexed (with_place index name hash (length ns)) (ns ++ name ∷ [])
+  pub IsIndexed-push : IsIndexed (hashes ++ hash ∷ []) (ns ++ name ∷ [])
   IsIndexed-push = record {
-    found = λ other plain. place_of-with_place index name other hash (length ns) plain ∙ found_by other (same_name other name) plain refl;
-    hashed = rw (texts_more name (length ns)) hashed_more;
+    hashed = hashed_more;
     apart = λ at other there. apart_by at other (one_of_more ns name other at there);
   }
 
@@ -81,13 +68,13 @@ names-push : (symbols : List Symbol) (name : Name) → names (symbols ++ undefin
 names-push symbols name = map-append (λ (symbol : Symbol). symbol.name) symbols (undefined name ∷ [])
 
 -- a symbol more
-pub IsSound-name : (index : IndexedNames) (symbols : List Symbol) (files : List Name) (counts : List (ℕ × ℕ)) (bytes : ℕ) (name : Name) (hash : ℕ) → HasHash name hash
-    → IsSound index symbols files counts bytes → index_of name (names symbols) ≡ None → length symbols + 1 < 2 ^ 32
-    → IsSound (with_place index name hash (length symbols)) (symbols ++ undefined name ∷ []) files counts (bytes + name_size name)
-IsSound-name index symbols files counts bytes name hash own sound new few =
+pub IsSound-name : (hashes : List ℕ) (symbols : List Symbol) (files : List Name) (counts : List (ℕ × ℕ)) (bytes : ℕ) (name : Name) (hash : ℕ) → HasHash name hash
+    → IsSound hashes symbols files counts bytes → index_of name (names symbols) ≡ None → length symbols + 1 < 2 ^ 32
+    → IsSound (hashes ++ hash ∷ []) (symbols ++ undefined name ∷ []) files counts (bytes + name_size name)
+IsSound-name hashes symbols files counts bytes name hash own sound new few =
     let long : length (names symbols) ≡ length symbols = simp length-map in
     record {
-      indexed = rw (names-push, ← long) (IsIndexed-push index (names symbols) name hash own sound.indexed new);
+      indexed = rw names-push (IsIndexed-push hashes (names symbols) name hash own sound.indexed new);
       within = rw names-push (AreNumbered-name (names symbols) files bytes name sound.within (omega arith));
       instances = AreCounted-push symbols counts (undefined name) sound.instances;
       forward = forward_push symbols name sound.forward;

@@ -7,7 +7,6 @@ use Rattle.asm_symbols.specs.declared.entries.Symbol.{Symbol}
 use Rattle.asm_symbols.specs.SymbolMap.{SymbolMap, changed, with_symbol}
 use Rattle.asm_symbols.specs.Attributes.{with_size, with_next_size}
 use Rattle.asm_symbols.specs.Assigning.{NoFormLeadsBack}
-use Rattle.asm_symbols.specs.NameIndex.{IndexedNames}
 use Rattle.asm_symbols.specs.Sound.{means_label, is_label_at, IsSound}
 use Rattle.asm_symbols.proofs.ChangeLemmas.{set_changed, KeepsLabels, IsSound-changed}
 
@@ -19,7 +18,7 @@ module _ (change : Symbol → Symbol) (symbols : List Symbol) (at : ℕ) (old : 
   written files counts sizes = ap (λ all. record { symbols = all; files = files; counts = counts; sizes = sizes }) (set_changed change symbols at old there is)
 
   -- and is sound
-  pub written_sound : ((symbol : Symbol) → (change symbol).name ≡ symbol.name) → KeepsLabels change symbols at → (NoFormLeadsBack symbols → NoFormLeadsBack (changed change symbols at)) → (index : IndexedNames) (files : List Name) (counts : List (ℕ × ℕ)) (bytes : ℕ)
+  pub written_sound : ((symbol : Symbol) → (change symbol).name ≡ symbol.name) → KeepsLabels change symbols at → (NoFormLeadsBack symbols → NoFormLeadsBack (changed change symbols at)) → (index : List ℕ) (files : List Name) (counts : List (ℕ × ℕ)) (bytes : ℕ)
       → IsSound index symbols files counts bytes → IsSound index (set symbols at (change old)) files counts bytes
   written_sound keeps labels forward index files counts bytes sound = rw (set_changed change symbols at old there is) (IsSound-changed change keeps index symbols files counts bytes at labels (forward sound.forward) sound)
 

@@ -10,6 +10,5 @@ pub mod LeadsBack
 pub mod Attributes
 pub mod Looking
 pub mod Order
-pub mod TextIndex
-pub mod NameIndex
+pub mod NameChains
 pub mod Sound

@@ -12,8 +12,7 @@ use Rattle.asm_symbols.specs.SymbolMap.{names, index_of}
 use Rattle.asm_symbols.specs.Interning.{name_size}
 use Rattle.asm_symbols.specs.Counting.{counted}
 use Rattle.asm_symbols.specs.Assigning.{NoFormLeadsBack}
-use Rattle.asm_symbols.specs.TextIndex.{AreHashed}
-use Rattle.asm_symbols.specs.NameIndex.{IndexedNames, is_text, place_of}
+use Rattle.asm_symbols.specs.NameChains.{AreHashed}
 
 -- no two places have one name
 abbrev pub AreApart : List Name → Type 0
@@ -24,10 +23,9 @@ AreApart ns =
 abbrev pub AreFound : List Name → Type 0
 AreFound ns = (at : ℕ) (name : Name) → slice_get ns at ≡ Some name → index_of name ns ≡ Some at
 
--- the index has the hash of each text and the place of each other name, and each name stands once
-pub record IsIndexed (index : IndexedNames) (ns : List Name) : Type 0 where
-  pub found : (name : Name) → is_text name ≡ false → place_of index name ≡ index_of name ns
-  pub hashed : AreHashed index.texts ns
+-- the index has the hash of each name, and each name stands once
+pub record IsIndexed (hashes : List ℕ) (ns : List Name) : Type 0 where
+  pub hashed : AreHashed hashes ns
   pub apart : AreFound ns
 
 -- the bytes of all names are counted, each symbol has a number of 32 bits, and there are at most 2^24 files
@@ -54,8 +52,8 @@ pub record AreCounted (symbols : List Symbol) (counts : List (ℕ × ℕ)) : Typ
   pub labels : (number instance : ℕ) → 0 < instance → instance ≤ counted counts number → list_any (is_label_of (naming.Numeric number instance)) symbols ≡ true
 
 -- names are found by the index, their bytes are counted, each counted instance is a label, and no form leads back to its symbol
-pub record IsSound (index : IndexedNames) (symbols : List Symbol) (files : List Name) (counts : List (ℕ × ℕ)) (bytes : ℕ) : Type 0 where
-  pub indexed : IsIndexed index (names symbols)
+pub record IsSound (hashes : List ℕ) (symbols : List Symbol) (files : List Name) (counts : List (ℕ × ℕ)) (bytes : ℕ) : Type 0 where
+  pub indexed : IsIndexed hashes (names symbols)
   pub within : AreNumbered (names symbols) files bytes
   pub instances : AreCounted symbols counts
   pub forward : NoFormLeadsBack symbols

@@ -2,12 +2,13 @@
 
 ghost use Rattle.std.specs.Prelude.{◌≡◌};
 ghost use Rattle.asm_symbols.specs.Interning.{undefined, name_size};
+ghost use Rattle.asm_symbols.specs.NameChains.{HasHash};
 
 use crate::copies::copied_name;
 use crate::entries::{Meaning, Symbol};
 use crate::faults::{SymCause, SymFault};
+use crate::name_chains::{numeric_hash, place_hash, text_hash};
 use crate::symbol_map::Symbols;
-use crate::text_index::text_hash;
 use asm_base::NoMemory;
 use asm_expr::{Name, Spelling, SymId, Written};
 use std::alloc::AllocError;
@@ -17,9 +18,6 @@ const MOST_NAMES: usize = 0x100_0000;
 
 /// The most bytes of names.
 const MOST_BYTES: u64 = 0x8000_0000;
-
-/// An odd number whose multiples spread over 32 bits.
-const SPREADING: u32 = 0x9e37_79b1;
 
 /// A symbol of which nothing is known.
 fn undefined(name: Name) -> Symbol
@@ -46,12 +44,27 @@ fn name_size(name: &Name) -> u64
     }
 }
 
+/// The hash of a name.
+fn hash_of(name: &Name) -> u32
+    ensures { HasHash name.now result }
+{
+    match name {
+        Name::Plain(text) => text_hash(text.as_bytes()),
+        Name::Numeric { number, instance } => numeric_hash(*number, *instance),
+        Name::Place {
+            section,
+            item,
+            offset,
+        } => place_hash(*section, *item, *offset),
+    }
+}
+
 impl Symbols {
     ghost use Rattle.std.specs.Prelude.{◌≡◌, ◌<◌, ◌≤◌, length, None, unwrap_or, OnOk, OnErr, IfOk};
     ghost use Rattle.asm_expr.specs.declared.naming.Name.TheVariants.{Plain, Numeric};
     ghost use Rattle.asm_expr.specs.declared.trees.Written.TheVariants.{Back, Next};
     ghost use Rattle.asm_symbols.specs.SymbolMap.{names, index_of};
-    ghost use Rattle.asm_symbols.specs.TextIndex.{IsHashOf, HasHash};
+    ghost use Rattle.asm_symbols.specs.NameChains.{IsHashOf, HasHash};
     ghost use Rattle.asm_symbols.specs.Answering.{GivesFaultFirst, GivesSymbolFaultFirst};
     ghost use Rattle.asm_symbols.specs.Interning.{bytes_with, room_for, is_within_limits, with_name, added, named, interned, number_of, with_file};
     ghost use Rattle.asm_symbols.specs.Counting.{meant_name, next_named};
@@ -75,18 +88,6 @@ impl Symbols {
         }
     }
 
-    /// The hash of a name: that of a text, and else one that spreads names over all chains.
-    fn hash_of(&self, name: &Name) -> u32
-        ensures { HasHash name.now result }
-    {
-        match name {
-            Name::Plain(text) => text_hash(text.as_bytes()),
-            Name::Numeric { .. } | Name::Place { .. } => {
-                (self.symbols.len() as u32).wrapping_mul(SPREADING)
-            }
-        }
-    }
-
     /// A symbol more, of which nothing is known, whatever room there is. `NoMemory` comes too where
     /// the number after its own would not fit in 32 bits, or the bytes of all names not in 64.
     fn push_hashed(&mut self, name: Name, hash: u32) -> Result<SymId, NoMemory>
@@ -104,7 +105,7 @@ impl Symbols {
             return Err(AllocError);
         };
         self.symbols.reserve(1)?;
-        self.index.insert(self.alloc, &name, hash, place as u32)?;
+        self.index.push(self.alloc, hash)?;
         self.symbols.push_reserved(undefined(name));
         self.bytes = bytes;
         Ok(SymId::new(place as u32))
@@ -117,7 +118,7 @@ impl Symbols {
         ensures id { IfOk result (λ id. id ≡ length self.old.symbols) }
         ensures unchanged { OnErr result (self.new ≡ self.old) }
     {
-        let hash = self.hash_of(&name);
+        let hash = hash_of(&name);
         self.push_hashed(name, hash)
     }
 

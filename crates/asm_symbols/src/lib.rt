@@ -12,9 +12,9 @@ mod faults;
 mod interning;
 mod laws;
 mod looking;
+mod name_chains;
 mod name_index;
 mod symbol_map;
-mod text_index;
 
 pub use asm_expr::SymId;
 pub use entries::{Binding, Definition, Kind, Meaning, Spot, Symbol, SymbolAttribute, Visibility};

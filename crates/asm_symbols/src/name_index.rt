@@ -1,64 +1,38 @@
 //! The index of names: where each name stands in a list.
 
 use crate::entries::Symbol;
-use crate::text_index::{TextIndex, text_hash};
+use crate::name_chains::{NameChains, Sought, numeric_hash, place_hash, text_hash};
 use asm_expr::Name;
-use indexmap::IndexMap;
 use std::alloc::{AllocError, Global};
-use std::hash::Hash;
 use std::marker::Model;
-
-/// An instance of a numeric label.
-#[derive(Clone, Copy, PartialEq, Eq, Hash, Debug)]
-pub(crate) struct NumericLabel {
-    number: u64,
-    instance: u32,
-}
-
-/// A place of a section: so many items and so many plain bytes stand before it.
-#[derive(Clone, Copy, PartialEq, Eq, Hash, Debug)]
-pub(crate) struct SectionPlace {
-    section: u32,
-    item: u64,
-    offset: u64,
-}
 
 /// Where each name stands.
 #[derive(Drop)]
 pub(crate) struct NameIndex {
-    texts: TextIndex,
-    labels: IndexMap<NumericLabel, u32>,
-    places: IndexMap<SectionPlace, u32>,
+    names: NameChains,
 }
 
 impl Model for NameIndex {
-    ghost use Rattle.asm_symbols.specs.NameIndex.{IndexedNames};
+    ghost use Rattle.std.specs.Prelude.{ℕ, List};
 
-    ghost Value = { IndexedNames };
+    ghost Value = { List ℕ };
 
-    ghost view = { λ index. record {
-      texts = index.texts.hashes;
-      labels = index.labels.entries;
-      places = index.places.entries;
-    } };
+    ghost view = { λ index. index.names.hashes };
 }
 
 impl NameIndex {
-    ghost use Rattle.std.specs.Prelude.{◌≡◌, ◌+◌, ◌^◌, ◌<◌, length, OnOk, OnErr};
+    ghost use Rattle.std.specs.Prelude.{◌≡◌, ◌+◌, ◌^◌, ◌<◌, [], ◌∷◌, ◌++◌, length, OnOk, OnErr};
     ghost use Rattle.asm_expr.specs.declared.naming.Name.TheVariants.{Plain, Numeric, Place};
     ghost use Rattle.asm_symbols.specs.SymbolMap.{names, index_of};
-    ghost use Rattle.asm_symbols.specs.TextIndex.{IsHashOf};
-    ghost use Rattle.asm_symbols.specs.NameIndex.{no_names, place_of, with_place};
+    ghost use Rattle.asm_symbols.specs.NameChains.{IsHashOf};
     ghost use Rattle.asm_symbols.specs.Sound.{IsIndexed};
 
     /// No names.
     pub(crate) fn new(alloc: Global) -> NameIndex
-        ensures { result ≡ no_names }
+        ensures { result ≡ [] }
     {
         NameIndex {
-            texts: TextIndex::new(alloc),
-            labels: IndexMap::new(alloc),
-            places: IndexMap::new(alloc),
+            names: NameChains::new(alloc),
         }
     }
 
@@ -69,7 +43,7 @@ impl NameIndex {
         requires own { IsHashOf text.now hash }
         ensures { result ≡ index_of (Plain text.now) (names symbols.now) }
     {
-        self.texts.find(symbols, text, hash)
+        self.names.find(symbols, Sought::Text(text), hash)
     }
 
     /// Where the text stands among the symbols' names.
@@ -80,28 +54,28 @@ impl NameIndex {
         self.find_hashed(symbols, text, text_hash(text))
     }
 
-    /// Where the instance of a numeric label stands.
-    pub(crate) fn find_numeric(&self, number: u64, instance: u32) -> Option<u32>
-        ensures { result ≡ place_of self.now (Numeric number instance) }
+    /// Where the instance of a numeric label stands among the symbols' names.
+    pub(crate) fn find_numeric(&self, symbols: &[Symbol], number: u64, instance: u32) -> Option<u32>
+        requires { IsIndexed self.now (names symbols.now) }
+        ensures { result ≡ index_of (Numeric number instance) (names symbols.now) }
     {
-        self.labels.get(&NumericLabel { number, instance }).copied()
+        let sought = Sought::Numeric { number, instance };
+        self.names
+            .find(symbols, sought, numeric_hash(number, instance))
     }
 
-    /// Where the place stands.
-    fn find_place(&self, section: u32, item: u64, offset: u64) -> Option<u32>
-        ensures { result ≡ place_of self.now (Place section item offset) }
+    /// Where the place stands among the symbols' names.
+    fn find_place(&self, symbols: &[Symbol], section: u32, item: u64, offset: u64) -> Option<u32>
+        requires { IsIndexed self.now (names symbols.now) }
+        ensures { result ≡ index_of (Place section item offset) (names symbols.now) }
     {
-        // Few sources name a place, and each `.` asks for one.
-        if self.places.is_empty() {
-            return None;
-        }
-        self.places
-            .get(&SectionPlace {
-                section,
-                item,
-                offset,
-            })
-            .copied()
+        let sought = Sought::Place {
+            section,
+            item,
+            offset,
+        };
+        self.names
+            .find(symbols, sought, place_hash(section, item, offset))
     }
 
     /// Where the name stands among the symbols' names.
@@ -111,55 +85,23 @@ impl NameIndex {
     {
         match name {
             Name::Plain(text) => self.find_text(symbols, text.as_bytes()),
-            Name::Numeric { number, instance } => self.find_numeric(*number, *instance),
+            Name::Numeric { number, instance } => self.find_numeric(symbols, *number, *instance),
             Name::Place {
                 section,
                 item,
                 offset,
-            } => self.find_place(*section, *item, *offset),
+            } => self.find_place(symbols, *section, *item, *offset),
         }
     }
 
-    /// The name stands here from now on: behind all others.
-    pub(crate) fn insert(
-        &mut self,
-        alloc: Global,
-        name: &Name,
-        hash: u32,
-        place: u32,
-    ) -> Result<(), AllocError>
-        requires { length self.old.texts + 1 < 2 ^ 32 }
-        ensures ok { OnOk result (self.new ≡ with_place self.old name.now hash place) }
+    /// The name of this hash stands behind all others.
+    pub(crate) fn push(&mut self, alloc: Global, hash: u32) -> Result<(), AllocError>
+        requires { length self.old + 1 < 2 ^ 32 }
+        ensures ok { OnOk result (self.new ≡ self.old ++ hash ∷ []) }
         ensures err { OnErr result (self.new ≡ self.old) }
     {
-        self.texts.reserve(alloc)?;
-        match name {
-            Name::Plain(_) => {}
-            Name::Numeric { number, instance } => {
-                self.labels.insert(
-                    NumericLabel {
-                        number: *number,
-                        instance: *instance,
-                    },
-                    place,
-                )?;
-            }
-            Name::Place {
-                section,
-                item,
-                offset,
-            } => {
-                self.places.insert(
-                    SectionPlace {
-                        section: *section,
-                        item: *item,
-                        offset: *offset,
-                    },
-                    place,
-                )?;
-            }
-        }
-        self.texts.push(hash);
+        self.names.reserve(alloc)?;
+        self.names.push(hash);
         Ok(())
     }
 }

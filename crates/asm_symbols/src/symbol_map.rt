@@ -94,7 +94,7 @@ impl Symbols {
         ensures value { result ≡ index_of (Numeric number instance) (names self.now.symbols) }
         ensures within { IfSome result (λ id. id < length self.now.symbols) }
     {
-        match self.index.find_numeric(number, instance) {
+        match self.index.find_numeric(&self.symbols, number, instance) {
             Some(place) => Some(SymId::new(place)),
             None => None,
         }

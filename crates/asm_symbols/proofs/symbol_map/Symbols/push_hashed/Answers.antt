@@ -17,12 +17,11 @@ invariant_of-self-2 c =
     let sum = fitting _ c.in-Some.bytes (sum_by name_size (names c.self.inside.symbols.items) + sum_by name_size c.self.inside.files.items + name_size c.args.name) (rw (← c.self.view_is) at c.in-Some.ensures) in
     let own : c.in-Some.bytes ≡ c.self.inside.bytes + name_size c.args.name = omega (arith, sum) in
     let few : length c.self.inside.symbols.items + 1 < 2 ^ 32 = omega (arith, c.if-place.false) in
-    let long : c.len-place.result ≡ length c.self.inside.symbols.items = omega arith in
-    rw (c.in_ok-insert.ensures.ok, c.push_reserved.ensures.items, c.reserve.ensures.items, c.undefined.ensures, own, long)
+    rw (c.in_ok-push.ensures.ok, c.push_reserved.ensures.items, c.reserve.ensures.items, c.undefined.ensures, own)
     (IsSound-name c.self.inside.index c.self.inside.symbols.items c.self.inside.files.items c.self.inside.counts.entries c.self.inside.bytes c.args.name c.args.hash c.requires.own c.self.invariant new few)
 
-pub insert-requires : goal.insert-requires
-insert-requires c =
+pub push-requires : goal.push-requires
+push-requires c =
     let long : length (names c.self.inside.symbols.items) ≡ length c.self.inside.symbols.items = simp length-map in
-    let texts : length c.self.inside.index.texts ≡ length (names c.self.inside.symbols.items) = c.self.invariant.indexed.hashed.long in
+    let hashes : length c.self.inside.index ≡ length (names c.self.inside.symbols.items) = c.self.invariant.indexed.hashed.long in
     omega (arith, c.if-place.false)

@@ -4,11 +4,11 @@ use Rattle.std.specs.Option.{option_map}
 use Rattle.std.proofs.lemmas.Option.{slice_get-map, slice_get-get_or, slice_get_read}
 use Rattle.std.proofs.lemmas.List.{length-map}
 use Rattle.asm_symbols.specs.declared.entries.Symbol.{Symbol}
-use Rattle.asm_symbols.specs.declared.text_index.Link.{Link}
+use Rattle.asm_symbols.specs.declared.name_chains.Link.{Link}
 use Rattle.asm_symbols.specs.SymbolMap.{names}
-use Rattle.asm_symbols.specs.TextIndex.{chain_of, hashes_of}
+use Rattle.asm_symbols.specs.NameChains.{chain_of, hashes_of, sought_name}
 use Rattle.asm_symbols.proofs.ChainLemmas.{search_begins, searching_none, search_on, search_smaller, search_found}
-use Rattle.asm_symbols.proofs.text_index.TextIndex.find.Goals as goal
+use Rattle.asm_symbols.proofs.name_chains.NameChains.find.Goals as goal
 
 pub chain-init : goal.chain-init
 chain-init c =
@@ -23,7 +23,7 @@ chain-init c =
     let there : slice_get c.self.inside.heads.items (chain_of (length c.self.inside.heads.items) c.args.hash) ≡ Some (get_or c.as_slice-heads.result.now c.chain_of.result 0) =
     ap (slice_get c.self.inside.heads.items) same ∙ ap (λ (hs : List ℕ). slice_get hs c.chain_of.result) (sym c.as_slice-heads.ensures.value) ∙ head in
     rw (← c.self.view_is)
-    (search_begins c.self.inside.heads.items c.self.inside.links.items c.self.invariant.0 (names c.args.symbols.now) c.args.text.now c.args.hash
+    (search_begins c.self.inside.heads.items c.self.inside.links.items c.self.invariant.0 (names c.args.symbols.now) (sought_name c.args.sought) c.args.hash
     (length (hashes_of c.self.inside.links.items) + (length c.self.inside.heads.items - length c.self.inside.links.items)) (get_or c.as_slice-heads.result.now c.chain_of.result 0)
     c.requires.own hashed all there)
 
@@ -47,7 +47,7 @@ returns-then-is_found c =
     slice_get_read c.args.symbols.now (length c.args.symbols.now) (c.chain.number - 1) c.index-symbols-at.result refl (omega (arith, some, within, named, symbols)) c.index-symbols-at.is in
     let here : slice_get (names c.args.symbols.now) (c.chain.number - 1) ≡ Some c.index-symbols-at.result.name =
     slice_get-map (λ (s : Symbol). s.name) c.args.symbols.now (c.chain.number - 1) ∙ ap (option_map (λ (s : Symbol). s.name)) symbol in
-    search_found c.self.inside.heads.items c.self.inside.links.items c.self.invariant.0 (names c.args.symbols.now) c.args.text.now c.args.hash
+    search_found c.self.inside.heads.items c.self.inside.links.items c.self.invariant.0 (names c.args.symbols.now) (sought_name c.args.sought) c.args.hash
     (length (hashes_of c.self.inside.links.items) + (length c.self.inside.heads.items - length c.self.inside.links.items)) c.chain.number c.index-symbols-at.result.name link
     c.requires.own hashed all some there here c.requires.apart (sym c.is_found.ensures ∙ c.if-is_found.true)
 
@@ -71,7 +71,7 @@ chain-smaller c =
     slice_get_read c.args.symbols.now (length c.args.symbols.now) (c.chain.number - 1) c.index-symbols-at.result refl (omega (arith, some, within, named, symbols)) c.index-symbols-at.is in
     let here : slice_get (names c.args.symbols.now) (c.chain.number - 1) ≡ Some c.index-symbols-at.result.name =
     slice_get-map (λ (s : Symbol). s.name) c.args.symbols.now (c.chain.number - 1) ∙ ap (option_map (λ (s : Symbol). s.name)) symbol in
-    search_smaller c.self.inside.heads.items c.self.inside.links.items c.self.invariant.0 (names c.args.symbols.now) c.args.text.now c.args.hash
+    search_smaller c.self.inside.heads.items c.self.inside.links.items c.self.invariant.0 (names c.args.symbols.now) (sought_name c.args.sought) c.args.hash
     (length (hashes_of c.self.inside.links.items) + (length c.self.inside.heads.items - length c.self.inside.links.items)) c.chain.number c.index-symbols-at.result.name link
     c.requires.own hashed all some there here search
 
@@ -95,11 +95,11 @@ chain-preserved c =
     slice_get_read c.args.symbols.now (length c.args.symbols.now) (c.chain.number - 1) c.index-symbols-at.result refl (omega (arith, some, within, named, symbols)) c.index-symbols-at.is in
     let here : slice_get (names c.args.symbols.now) (c.chain.number - 1) ≡ Some c.index-symbols-at.result.name =
     slice_get-map (λ (s : Symbol). s.name) c.args.symbols.now (c.chain.number - 1) ∙ ap (option_map (λ (s : Symbol). s.name)) symbol in
-    rw (← c.self.view_is) (search_on c.self.inside.heads.items c.self.inside.links.items c.self.invariant.0 (names c.args.symbols.now) c.args.text.now c.args.hash
+    rw (← c.self.view_is) (search_on c.self.inside.heads.items c.self.inside.links.items c.self.invariant.0 (names c.args.symbols.now) (sought_name c.args.sought) c.args.hash
     (length (hashes_of c.self.inside.links.items) + (length c.self.inside.heads.items - length c.self.inside.links.items)) c.chain.number c.index-symbols-at.result.name link
     c.requires.own hashed all some there here search (sym c.is_found.ensures ∙ c.if-is_found.false))
 
 pub returns : goal.returns
 returns c =
     let none : c.chain.number ≡ 0 = omega (arith, c.chain-test.false) in
-    sym (searching_none (names c.args.symbols.now) c.args.self.now.hashes (length c.args.self.now.hashes + c.args.self.now.room) c.args.text.now c.args.hash c.chain.number c.chain.invariant none)
+    sym (searching_none (names c.args.symbols.now) c.args.self.now.hashes (length c.args.self.now.hashes + c.args.self.now.room) (sought_name c.args.sought) c.args.hash c.chain.number c.chain.invariant none)

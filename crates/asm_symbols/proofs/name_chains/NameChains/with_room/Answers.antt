@@ -1,7 +1,7 @@
 -- Where there are no places each head is 0.
-use Rattle.std.proofs.Common.{◌≡◌, ◌≤◌, length, arith}
+use Rattle.std.proofs.Common.{arith}
 use Rattle.asm_symbols.proofs.ChainLemmas.{AreChained-none}
-use Rattle.asm_symbols.proofs.text_index.TextIndex.with_room.Goals as goal
+use Rattle.asm_symbols.proofs.name_chains.NameChains.with_room.Goals as goal
 
 pub invariant_of-result : goal.invariant_of-result
 invariant_of-result c =

@@ -1,15 +1,21 @@
-//! Where each text stands in a list of names: chains of places whose texts have like hashes.
+//! Where each name stands in a list: chains of places whose names have like hashes.
 
 ghost use Rattle.std.specs.Prelude.{◌≡◌, ◌<◌, ◌==◌, ◌&&◌};
-ghost use Rattle.asm_expr.specs.declared.naming.Name.TheVariants.{Plain};
+ghost use Rattle.asm_expr.specs.declared.naming.Name.TheVariants.{Plain, Numeric, Place};
 ghost use Rattle.asm_expr.specs.Names.{same_name};
-ghost use Rattle.asm_symbols.specs.TextIndex.{IsHashOf, chain_of};
+ghost use Rattle.asm_symbols.specs.NameChains.{IsHashOf, numeric_hash, place_hash, chain_of, sought_name};
 
 use crate::entries::Symbol;
 use asm_expr::Name;
 use std::alloc::{AllocError, Global};
 use std::hash::{FoldHasher, Hasher};
 use std::marker::Model;
+
+/// An odd number whose multiples spread over 32 bits.
+const SPREADING: u64 = 0x9e37_79b1;
+
+/// How many hashes there are.
+const HASHES: u64 = 1 << 32;
 
 /// How many chains there are at first.
 const FEWEST_CHAINS: usize = 64;
@@ -32,6 +38,31 @@ pub(crate) fn text_hash(text: &[u8]) -> u32
     (hasher.finish() >> 32) as u32
 }
 
+/// The hash of an instance of a numeric label: the instances of a label have neighbouring hashes, so
+/// that the heads of their chains stand side by side.
+#[inline(always)]
+#[tactic(auto, unfolding(crate::specs::NameChains::numeric_hash))]
+pub(crate) fn numeric_hash(number: u64, instance: u32) -> u32
+    ensures { result ≡ numeric_hash number instance }
+{
+    let sum = number.wrapping_mul(SPREADING).wrapping_add(instance as u64);
+    (sum % HASHES) as u32
+}
+
+/// The hash of a place. Neighbours in a section have neighbouring hashes, so that the heads of their
+/// chains stand side by side; and places rise along a section, so that few share a hash.
+#[inline(always)]
+#[tactic(auto, unfolding(crate::specs::NameChains::place_hash))]
+pub(crate) fn place_hash(section: u32, item: u64, offset: u64) -> u32
+    ensures { result ≡ place_hash section item offset }
+{
+    let first = section as u64 * SPREADING;
+    let sum = first
+        .wrapping_add(item.wrapping_mul(2))
+        .wrapping_add(offset / 16);
+    (sum % HASHES) as u32
+}
+
 /// The chain of a hash among so many.
 #[inline(always)]
 fn chain_of(hash: u32, count: usize) -> usize
@@ -40,6 +71,21 @@ fn chain_of(hash: u32, count: usize) -> usize
     ensures within { result < count }
 {
     hash as usize & (count - 1)
+}
+
+/// A name that is looked for.
+#[derive(Clone, Copy)]
+pub(crate) enum Sought<'a> {
+    Text(&'a [u8]),
+    Numeric {
+        number: u64,
+        instance: u32,
+    },
+    Place {
+        section: u32,
+        item: u64,
+        offset: u64,
+    },
 }
 
 /// Whether the name is the text.
@@ -53,25 +99,67 @@ fn is_text(name: &Name, text: &[u8]) -> bool
     }
 }
 
-/// Whether a symbol whose link is this has the text of this hash as its name.
+/// Whether the name is this instance of a numeric label.
 #[inline(always)]
-fn is_found(link: Link, hash: u32, symbol: &Symbol, text: &[u8]) -> bool
-    ensures { result ≡ (link.hash == hash && same_name (Plain text.now) symbol.now.name) }
+fn is_numeric(name: &Name, label: u64, last: u32) -> bool
+    ensures { result ≡ same_name (Numeric label last) name.now }
 {
-    link.hash == hash && is_text(&symbol.name, text)
+    match name {
+        Name::Numeric { number, instance } => label == *number && last == *instance,
+        Name::Plain(_) | Name::Place { .. } => false,
+    }
+}
+
+/// Whether the name is the place of this section behind so many items and plain bytes.
+#[inline(always)]
+fn is_place(name: &Name, within: u32, items: u64, bytes: u64) -> bool
+    ensures { result ≡ same_name (Place within items bytes) name.now }
+{
+    match name {
+        Name::Place {
+            section,
+            item,
+            offset,
+        } => within == *section && items == *item && bytes == *offset,
+        Name::Plain(_) | Name::Numeric { .. } => false,
+    }
+}
+
+/// Whether the name is the one that is looked for.
+#[inline(always)]
+fn is_sought(name: &Name, sought: Sought) -> bool
+    ensures { result ≡ same_name (sought_name sought.entry) name.now }
+{
+    match sought {
+        Sought::Text(text) => is_text(name, text),
+        Sought::Numeric { number, instance } => is_numeric(name, number, instance),
+        Sought::Place {
+            section,
+            item,
+            offset,
+        } => is_place(name, section, item, offset),
+    }
+}
+
+/// Whether a symbol whose link is this has the name that is looked for, whose hash is this.
+#[inline(always)]
+fn is_found(link: Link, hash: u32, symbol: &Symbol, sought: Sought) -> bool
+    ensures { result ≡ (link.hash == hash && same_name (sought_name sought.entry) symbol.now.name) }
+{
+    link.hash == hash && is_sought(&symbol.name, sought)
 }
 
 /// Chains of places by the hashes of what stands there.
 #[derive(Drop)]
-pub(crate) struct TextIndex {
+pub(crate) struct NameChains {
     /// The number of the last place of each chain.
     heads: Vec<u32>,
     links: Vec<Link>,
 }
 
-impl Model for TextIndex {
+impl Model for NameChains {
     ghost use Rattle.std.specs.Prelude.{◌≤◌, ◌-◌, length, vec_capacity};
-    ghost use Rattle.asm_symbols.specs.TextIndex.{HashedPlaces, hashes_of, AreChained};
+    ghost use Rattle.asm_symbols.specs.NameChains.{HashedPlaces, hashes_of, AreChained};
 
     ghost Value = { HashedPlaces };
 
@@ -85,30 +173,29 @@ impl Model for TextIndex {
         × (length index.heads.items ≤ vec_capacity index.links) };
 }
 
-impl TextIndex {
+impl NameChains {
     ghost use Rattle.std.specs.Prelude.{◌≡◌, ◌+◌, ◌^◌, ◌<◌, [], ◌∷◌, ◌++◌, length, OnOk, IfOk};
-    ghost use Rattle.asm_expr.specs.declared.naming.Name.TheVariants.{Plain};
     ghost use Rattle.asm_symbols.specs.SymbolMap.{names, index_of};
-    ghost use Rattle.asm_symbols.specs.TextIndex.{IsHashOf, AreHashed};
+    ghost use Rattle.asm_symbols.specs.NameChains.{HasHash, AreHashed, sought_name};
     ghost use Rattle.asm_symbols.specs.Sound.{AreFound};
 
     /// No places.
-    pub(crate) fn new(alloc: Global) -> TextIndex
+    pub(crate) fn new(alloc: Global) -> NameChains
         ensures { result.hashes ≡ [] }
     {
-        TextIndex {
+        NameChains {
             heads: Vec::new(alloc),
             links: Vec::new(alloc),
         }
     }
 
-    /// Where the text stands among the symbols' names.
+    /// Where the name of this hash stands among the symbols' names.
     #[inline(always)]
-    pub(crate) fn find(&self, symbols: &[Symbol], text: &[u8], hash: u32) -> Option<u32>
+    pub(crate) fn find(&self, symbols: &[Symbol], sought: Sought, hash: u32) -> Option<u32>
         requires hashed { AreHashed self.now.hashes (names symbols.now) }
         requires apart { AreFound (names symbols.now) }
-        requires own { IsHashOf text.now hash }
-        ensures { result ≡ index_of (Plain text.now) (names symbols.now) }
+        requires own { HasHash (sought_name sought) hash }
+        ensures { result ≡ index_of (sought_name sought.entry) (names symbols.now) }
     {
         let heads = self.heads.as_slice();
         let links = self.links.as_slice();
@@ -119,7 +206,7 @@ impl TextIndex {
         'chain: while number > 0 {
             let at = number - 1;
             let link = links[at as usize];
-            if is_found(link, hash, &symbols[at as usize], text) {
+            if is_found(link, hash, &symbols[at as usize], sought) {
                 return Some(at);
             }
             number = link.before;
@@ -128,11 +215,11 @@ impl TextIndex {
     }
 
     /// No places yet, and room for so many.
-    fn with_room(alloc: Global, count: usize) -> Result<TextIndex, AllocError>
+    fn with_room(alloc: Global, count: usize) -> Result<NameChains, AllocError>
         ensures hashes { IfOk result (λ index. index.hashes ≡ []) }
         ensures room { IfOk result (λ index. index.room ≡ count) }
     {
-        Ok(TextIndex {
+        Ok(NameChains {
             heads: vec![in alloc; 0u32; count]?,
             links: Vec::with_capacity(alloc, count)?,
         })
@@ -145,7 +232,7 @@ impl TextIndex {
         ensures ok { OnOk result (0 < self.new.room) }
     {
         let count = FEWEST_CHAINS.max(2 * self.heads.len());
-        let mut grown = TextIndex::with_room(alloc, count)?;
+        let mut grown = NameChains::with_room(alloc, count)?;
         for link in &self.links {
             grown.push(link.hash);
         }

@@ -1,10 +1,10 @@
 -- The place is the last of its chain.
-use Rattle.std.proofs.Common.{◌≡◌, ℕ, ◌+◌, ◌-◌, ◌^◌, ◌<◌, suc, length, Some, refl, arith, slice_get}
+use Rattle.std.proofs.Common.{◌≡◌, ◌+◌, ◌-◌, ◌^◌, ◌<◌, suc, length, Some, refl, arith, slice_get}
 use Rattle.std.proofs.lemmas.Option.{slice_get_read}
 use Rattle.std.proofs.lemmas.List.{length-map}
-use Rattle.asm_symbols.specs.TextIndex.{hashes_of}
+use Rattle.asm_symbols.specs.NameChains.{hashes_of}
 use Rattle.asm_symbols.proofs.ChainLemmas.{AreChained-push, length-set}
-use Rattle.asm_symbols.proofs.text_index.TextIndex.push.Goals as goal
+use Rattle.asm_symbols.proofs.name_chains.NameChains.push.Goals as goal
 
 pub invariant_of-self : goal.invariant_of-self
 invariant_of-self c =
