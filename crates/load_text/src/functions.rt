@@ -7,6 +7,9 @@ use asm_base::{NoMemory, Text};
 use itoa::Buffer;
 use std::alloc::Global;
 
+/// About the bytes of the lines of a function, where there are 100,000.
+const FUNCTION_BYTES: usize = 190;
+
 /// From the name of a function behind its `.type` to its label.
 #[tactic(auto, unfolding(crate::specs::Load::before_label))]
 fn before_label() -> &'static [u8]
@@ -78,7 +81,8 @@ fn put_function(text: &mut Vec<u8>, index: u64, functions: u64) -> Result<(), No
 pub fn self_load(alloc: Global, functions: u32) -> Result<Text, NoMemory>
     ensures { IfOk result (λ text. text ≡ load_text functions) }
 {
-    let mut text = Vec::from_slice(alloc, b".text\n")?;
+    let mut text = Vec::with_capacity(alloc, functions as usize * FUNCTION_BYTES)?;
+    text.extend_from_slice(b".text\n")?;
     let functions = u64::from(functions);
     for index in 0..functions {
         put_function(&mut text, index, functions)?;
