@@ -8,6 +8,7 @@ This is no test: it does not look at the objects, claims nothing, and ends with 
 """
 import argparse
 import ctypes
+import functools
 import itertools
 import os
 import pathlib
@@ -28,6 +29,7 @@ RANDOM_PROGRAMS = 20  # so many are compiled at most, some 100,000 lines
 ENVIRONMENT = {**os.environ, "LC_ALL": "C"}
 MIB = 1 << 20
 MEMORY = pathlib.Path("/dev/shm")  # where Linux keeps files in memory
+MANY = 1 << 40  # bytes, more than any source has
 ROOM = 1 << 30  # more than a case and its objects take, those of `space` apart
 
 
@@ -234,12 +236,12 @@ def macros() -> Iterator[str]:
         yield f"\tframe {16 + n % 50 * 8}, %rbx\n\tframe 64, save=%r12, clear=1\n"
 
 
-def load() -> Iterator[str]:
-    """100,000 small functions, each with a call of the next one, a branch over it, and a repeat."""
-    for n in range(100_000):
-        yield (f"\t.type f{n},@function\nf{n}:\tpush %rbp\n\tmov %rsp,%rbp\n\tpush %rbx\n\tmov %edi,%ebx\n\ttest %ebx,%ebx\n\tje 1f\n\tcall f{(n + 1) % 100_000}\n"
-               f"\t.rept {(5 * n + 100_000) % 28}\n\tmov $4096,%eax\n\t.endr\n1:\tpop %rbx\n\tpop %rbp\n\tret\n\t.size f{n},.-f{n}\n")
-    yield from itertools.repeat("# \n")
+def load_text(functions: int) -> Iterator[str]:
+    """The text of `--self-load`: small functions, each with a call of the next one, a branch over it, and a repeat."""
+    yield ".text\n"
+    for n in range(functions):
+        yield (f".type f{n},@function\nf{n}: push %rbp\nmov %rsp,%rbp\npush %rbx\nmov %edi,%ebx\ntest %ebx,%ebx\nje 1f\ncall f{(n + 1) % functions}\n"
+               f".rept {(5 * n + functions) % 28}\nmov $4096,%eax\n.endr\n1: pop %rbx\npop %rbp\nret\n.size f{n},.-f{n}\n")
 
 
 def empty() -> Iterator[str]:
@@ -317,10 +319,13 @@ SIZES_IN_LINES = [10_000, 100_000, 1_000_000]
 SOURCES_OF_LINES: list[tuple[Callable[[], Iterator[str]], list[int]]] = [
     (code, SIZES_IN_LINES), (functions, SIZES_IN_LINES), (frames, [100_000]), (intel, [100_000]), (programs, SIZES_IN_LINES), (data, SIZES_IN_LINES), (relocations, SIZES_IN_LINES),
     (distances, [100_000]), (fills, [100_000]), (alignments, [100_000]), (jumps, [400_000]), (cascade, [10_000]), (leb128, [64_000]), (sections, [60_000]),
-    (chain, [20_000]), (chain_back, [20_000]), (late_chain, [16_000]), (sums, [10_000]), (calls, [20_000]), (macros, [40_000]), (load, [1_500_000]), (copies, [4]), (zeros, [3]),
+    (chain, [20_000]), (chain_back, [20_000]), (late_chain, [16_000]), (sums, [10_000]), (calls, [20_000]), (macros, [40_000]), (copies, [4]), (zeros, [3]),
     (unlettered, [6]), (cancelling, [300_000]), (assigned, [100_000]), (unsigned_numbers, [300_000]), (signed_numbers, [300_000]), (byte_lines, [300_000]), (debug, [160_000]),
     (empty, [1]), (space, [16]),
 ]
+# Texts of `--self-load` of so many functions.
+LOADS = [1_000, 10_000, 100_000]
+SYNTHESIS = "--scfi=experimental"
 SOURCES_OF_GCC = [code, functions, frames, intel, programs, debug]
 
 
@@ -331,14 +336,24 @@ class Size:
     lines: int = 0
 
 
+@dataclass
+class Case:
+    """What is assembled: lines until the file has at least this size, or all of them; and the words before its name, or in place of it."""
+    lines: Callable[[], Iterator[str]]
+    least: Size
+    options: tuple[str, ...] = ()
+    instead: tuple[str, ...] = ()
+
+
 def write_source(name: str, lines: Iterator[str], least: Size) -> Size:
-    """Writes lines until the file has at least this size. Answers the size that it has."""
+    """Writes lines until the file has at least this size, or all of them. Answers the size that it has."""
     size = Size()
     with open(name, "w", encoding="ascii") as source:
-        while size.bytes < least.bytes or size.lines < least.lines:
-            line = next(lines)
+        for line in lines:
             size.bytes += source.write(line)
             size.lines += line.count("\n")
+            if size.bytes >= least.bytes and size.lines >= least.lines:
+                break
     return size
 
 
@@ -376,10 +391,11 @@ def run_once(command: list[str], measured: Measured, for_memory: bool) -> None:
         measured.instead, measured.reason = "failed", f"status {os.waitstatus_to_exitcode(status)}, {first}"
 
 
-def measure(name: str, gnu: str | None, runs: int) -> tuple[Measured, Measured]:
+def measure(name: str, case: Case, gnu: str | None, runs: int) -> tuple[Measured, Measured]:
     """Runs build/as and GNU as in turn on a source, and once more for the memory. One that failed is not run again."""
     ours, theirs = Measured(), Measured(instead="" if gnu else "-")
-    programs = [([str(BUILT), name], "a.out", ours), ([str(gnu), "-o", "gnu.o", name], "gnu.o", theirs)]
+    words = case.instead or (*case.options, name)
+    programs = [([str(BUILT), *words], "a.out", ours), ([str(gnu), *case.options, "-o", "gnu.o", name], "gnu.o", theirs)]
     for for_memory in [False] * runs + [True]:
         for command, output, measured in programs:
             if not measured.instead:
@@ -424,24 +440,29 @@ def main() -> None:
     parser.add_argument("--runs", metavar="N", type=int, default=5, help="how often each runs on a case (default 5)")
     parser.add_argument("--markdown", action="store_true", help="print the table as Markdown")
     options = parser.parse_args()
-    cases = {f"{source.__name__}-{mib}M": (source, Size(bytes=mib * MIB)) for source in SOURCES_OF_TEXT for mib in SIZES_IN_MIB}
-    cases |= {f"{source.__name__}-{lines}": (source, Size(lines=lines)) for source, sizes in SOURCES_OF_LINES for lines in sizes}
+    cases = {f"{source.__name__}-{mib}M": Case(source, Size(bytes=mib * MIB)) for source in SOURCES_OF_TEXT for mib in SIZES_IN_MIB}
+    cases |= {f"{source.__name__}-{lines}": Case(source, Size(lines=lines)) for source, sizes in SOURCES_OF_LINES for lines in sizes}
+    for functions in LOADS:
+        text, whole = functools.partial(load_text, functions), Size(bytes=MANY)
+        cases[f"load-{functions}"] = Case(text, whole)
+        cases[f"load_scfi-{functions}"] = Case(text, whole, (SYNTHESIS,))
+        cases[f"self_load-{functions}"] = Case(text, whole, (SYNTHESIS,), ("--self-load", str(functions)))
     chosen = {name: case for name, case in cases.items() if options.only in name}
     if options.runs < 1 or not chosen or not BUILT.exists():
         parser.error(f"build/as is built first, N is at least 1, and WORD stands in one of: {', '.join(cases)}")
-    without_gcc = [name for name, (source, _) in chosen.items() if source in SOURCES_OF_GCC and not shutil.which("gcc")]
+    without_gcc = [name for name, case in chosen.items() if case.lines in SOURCES_OF_GCC and not shutil.which("gcc")]
     for name in without_gcc:
         del chosen[name]
     gnu, version = find_gnu()
     print(f"{version}\nleast of {options.runs} processor times, memory in MiB\n", flush=True)
     ctypes.CDLL(None).prctl(36, 1, 0, 0, 0)  # PR_SET_CHILD_SUBREAPER: orphans become children of this process
     rows, reasons = [], [f"{name} is left out: no gcc on PATH" for name in without_gcc]
-    for name, (source, least) in chosen.items():
+    for name, case in chosen.items():
         # `space` writes 8 GiB.
-        with tempfile.TemporaryDirectory(dir=None if source is space else memory_folder()) as folder:
+        with tempfile.TemporaryDirectory(dir=None if case.lines is space else memory_folder()) as folder:
             os.chdir(folder)
-            size = write_source(f"{name}.s", source(), least)
-            ours, theirs = measure(f"{name}.s", gnu, options.runs)
+            size = write_source(f"{name}.s", case.lines(), case.least)
+            ours, theirs = measure(f"{name}.s", case, gnu, options.runs)
             os.chdir("/")
         rows.append(row_of(name, size, ours, theirs))
         reasons += [f"{who} failed: {it.reason}" for who, it in (("build/as", ours), ("GNU as", theirs)) if it.reason]
