@@ -53,6 +53,8 @@ statement_text statement.CfiOutsideProcedure = codes "CFI directive outside a pr
 statement_text statement.UnbalancedCfiState = codes "CFI states do not balance"
 statement_text statement.FunctionSplit = codes "function is split over sections"
 statement_text statement.BadFileName = codes "bad file name"
+statement_text statement.UnassignedFileNumber = codes "file number is not assigned"
+statement_text statement.FileNumberInUse = codes "file number is already in use"
 
 -- the text of a fault that shows at the end of the source
 abbrev pub end_text : EndFault → List ℕ

@@ -69,6 +69,10 @@ pub enum StatementFault {
     FunctionSplit,
     /// An included file's name is empty, or no text.
     BadFileName,
+    /// A `.loc` names a file number that no `.file` before it gave.
+    UnassignedFileNumber,
+    /// A `.file` gives a number again with another directory or name.
+    FileNumberInUse,
 }
 
 // A result of a statement is copied at each `?`.

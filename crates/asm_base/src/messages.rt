@@ -68,6 +68,8 @@ fn statement_text(fault: &StatementFault) -> &[u8]
         StatementFault::UnbalancedCfiState => b"CFI states do not balance",
         StatementFault::FunctionSplit => b"function is split over sections",
         StatementFault::BadFileName => b"bad file name",
+        StatementFault::UnassignedFileNumber => b"file number is not assigned",
+        StatementFault::FileNumberInUse => b"file number is already in use",
     }
 }
 

@@ -15,18 +15,17 @@ use Rattle.asm_place.specs.Faults.{is_too_large, is_file_too_large}
 use Rattle.asm_place.specs.Sources.{fault_at}
 use Rattle.asm_place.specs.declared.place_faults.FaultAt.{FaultAt}
 use Rattle.asm_functions.specs.FollowedSource.{FollowedSource}
-use Rattle.asm_front.specs.Ending.{Flags, followed_end}
-use Rattle.asm_front.specs.declared.ending.NotedObject.{NotedObject}
+use Rattle.source_ends.specs.Ending.{Flags, followed_end}
+use Rattle.source_ends.specs.declared.ending.NotedObject.{NotedObject}
 use Rattle.asm_front.specs.Assembly.{assembled, faulty, macro_fault, shown_files, ended_by}
 use Rattle.asm_front.specs.Sources.{file}
 use Rattle.asm_front.specs.Answering.{AnswersSmall, AnswersSource, IsAnswered, IsAnswer, line_answer}
-use Rattle.asm_front.specs.Synthesis.{Synthesis}
+use Rattle.source_ends.specs.Synthesis.{Synthesis}
 use Rattle.asm_front.specs.Outcome.{HasAssemblyCause, KeepsCount, TakesSource, TakesText, flags_asked}
 use Rattle.asm_front.specs.declared.answers.Asked.{Asked}
 use Rattle.asm_front.specs.declared.answers.Assembled.{Assembled}
 use Rattle.asm_front.specs.declared.answers.AsmFault.{AsmFault}
 use Rattle.asm_front.specs.declared.answers.AsmFault.TheVariants.{Source, Read, NoMemory}
-use Rattle.asm_front.proofs.FaultLaws.{end_is_no_reading}
 
 module _ (flags : Flags) (name : List ℕ) (files : List (List ℕ)) (placed : FollowedSource) where
   -- an object comes only where expansion came to its end
@@ -118,6 +117,10 @@ never_large : {C : Type 0} (large : Bool) → large ≡ false → IsTrue large �
 never_large true is large = absurd cc
 never_large false is large = absurd cc
 
+-- the end of a source is no reading of a file
+abbrev pub NoReading : Type 0
+NoReading = (flags : Flags) (f : FollowedSource) (fault : FaultAt) → followed_end flags f ≡ Err fault → is_file_too_large fault.fault ≡ false
+
 ended_fault : (shown : List (List ℕ)) (answer : Result NotedObject FaultAt) (fault : FaultAt) (files : List (List ℕ)) → ended_by shown answer ≡ faulty fault files → answer ≡ Err fault
 ended_fault shown (Ok made) fault files is = absurd cc
 ended_fault shown (Err at) fault files is = cc
@@ -125,14 +128,14 @@ ended_fault shown (Err at) fault files is = cc
 same_fault : (at other : FaultAt) (shown files : List (List ℕ)) → faulty at shown ≡ faulty other files → other.fault ≡ at.fault
 same_fault at other shown files is = cc
 
-module _ (flags : Flags) (name : List ℕ) (files : List (List ℕ)) (placed : FollowedSource) where
+module _ (apart : NoReading) (flags : Flags) (name : List ℕ) (files : List (List ℕ)) (placed : FollowedSource) where
   pub text_large : (expanded : Result (Unit {0}) (ExpandFault FaultAt)) (result : Result Assembled AsmFault) (before now : ℕ) → IsAnswer flags name files placed expanded result
       → AnswersSmall expanded result → TakesTooLarge expanded before now → TakesSource (file name) result before now
   text_large expanded (Ok made) before now so small takes = tt
   text_large expanded (Err Read) before now so small takes = tt
   text_large expanded (Err NoMemory) before now so small takes = tt
   text_large (Ok u) (Err (Source fault pos notes names)) before now so small takes =
-      never_large (is_file_too_large fault) (end_is_no_reading flags placed (fault_at fault pos notes)
+      never_large (is_file_too_large fault) (apart flags placed (fault_at fault pos notes)
       (ended_fault (shown_files name files) (followed_end flags placed) (fault_at fault pos notes) names so))
   text_large (Err (expand.Lines (line.NulByte n))) (Err (Source fault pos notes names)) before now so small takes = never_large (is_file_too_large fault) (ap is_file_too_large (same_fault _ (fault_at fault pos notes) _ names so))
   text_large (Err (expand.Lines (line.UnclosedString n))) (Err (Source fault pos notes names)) before now so small takes = never_large (is_file_too_large fault) (ap is_file_too_large (same_fault _ (fault_at fault pos notes) _ names so))
@@ -162,11 +165,11 @@ source_taken asked files f expanded result before now is takes some =
     text_taken (flags_asked asked one.0) (string_bytes asked.file) files f expanded result before now one.1 takes some
 
 -- and a file is called too large where more than the most was
-pub source_large : (asked : Asked) (files : List (List ℕ)) (f : FollowedSource) (expanded : Result (Unit {0}) (ExpandFault FaultAt)) (result : Result Assembled AsmFault) (before now : ℕ)
+pub source_large : NoReading → (asked : Asked) (files : List (List ℕ)) (f : FollowedSource) (expanded : Result (Unit {0}) (ExpandFault FaultAt)) (result : Result Assembled AsmFault) (before now : ℕ)
     → AnswersSource asked files f expanded result → AnswersSmall expanded result → TakesTooLarge expanded before now → TakesSource (file (string_bytes asked.file)) result before now
-source_large asked files f expanded result before now is small takes =
+source_large apart asked files f expanded result before now is small takes =
     let one = some_answer asked files f expanded result is in
-    text_large (flags_asked asked one.0) (string_bytes asked.file) files f expanded result before now one.1 small takes
+    text_large apart (flags_asked asked one.0) (string_bytes asked.file) files f expanded result before now one.1 small takes
 
 cause_by : (flags : Flags) (name : List ℕ) (files : List (List ℕ)) (f : FollowedSource) (expanded : Result (Unit {0}) (ExpandFault FaultAt)) (result : Result Assembled AsmFault) (before now : ℕ)
     → IsAnswer flags name files f expanded result → HasExpansionCause expanded before now → HasAssemblyCause result before now

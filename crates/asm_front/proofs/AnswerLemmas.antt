@@ -12,7 +12,7 @@ use Rattle.asm_macro.specs.declared.faults.ExpandFault.TheVariants as expand
 use Rattle.asm_place.specs.Sources.{pos_at}
 use Rattle.asm_place.specs.declared.place_faults.FaultAt.{FaultAt}
 use Rattle.asm_functions.specs.FollowedSource.{FollowedSource}
-use Rattle.asm_front.specs.Ending.{Flags}
+use Rattle.source_ends.specs.Ending.{Flags}
 use Rattle.asm_front.specs.Assembly.{Assembly, missing, main_file, shown_files, placed_after, told_of, nothing_yet, assembly_by, known_by, expansion_of}
 use Rattle.asm_front.specs.Answering.{IsAnswered, IsAnswer, AssemblesText, CountsText}
 use Rattle.asm_front.specs.Outcome.{AssemblesAs, AssemblesKnown, CountsKnown}

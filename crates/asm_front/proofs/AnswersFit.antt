@@ -10,20 +10,21 @@ use Rattle.asm_macro.specs.declared.faults.ExpandFault.{ExpandFault}
 use Rattle.asm_macro.specs.declared.faults.ExpandFault.TheVariants as expand
 use Rattle.asm_place.specs.declared.place_faults.FaultAt.{FaultAt}
 use Rattle.asm_functions.specs.FollowedSource.{FollowedSource}
-use Rattle.asm_front.specs.Ending.{Flags, framed, with_made}
+use Rattle.source_ends.specs.Ending.{Flags, tabled, with_made}
 use Rattle.asm_front.specs.Sources.{MainSource, name_of, source_in}
 use Rattle.asm_front.specs.Assembly.{assembled, assembly_of, expansion_of, handed_of, main_file, placed_after, told_of, nothing_yet, SourceIsMade, FileIsMade, IsMade}
 use Rattle.asm_front.specs.Answering.{IsAnswer}
-use Rattle.asm_front.specs.Fitting.{TablesFit, AnswerFits, StepFits, TextFits, ObjectIsReadable, FileIsReadable, SourceIsReadable}
+use Rattle.source_ends.specs.Fitting.{TablesFit}
+use Rattle.asm_front.specs.Fitting.{AnswerFits, StepFits, TextFits, ObjectIsReadable, FileIsReadable, SourceIsReadable}
 use Rattle.asm_front.specs.Outcome.{AssemblesFile, Assembles}
 use Rattle.asm_front.specs.declared.answers.Assembled.{Assembled}
 use Rattle.asm_front.specs.declared.answers.AsmFault.{AsmFault}
-use Rattle.asm_front.specs.declared.ending.NotedObject.{NotedObject}
+use Rattle.source_ends.specs.declared.ending.NotedObject.{NotedObject}
 use Rattle.asm_front.proofs.WholeSources.{IsRead}
 
 -- where the end came, what it placed fits
 at_end : (flags : Flags) (wanted : Step FollowedSource FaultAt) (files : List (List ℕ)) (placed : FollowedSource) → Comes wanted (ended files placed)
-    → TablesFit (framed (with_made flags.scfi placed.placed)) → StepFits flags wanted
+    → TablesFit (tabled (with_made flags.scfi placed.placed)) → StepFits flags wanted
 at_end flags wanted files placed (inl is) fit = subst (StepFits flags) (sym is) fit
 at_end flags wanted files placed (inr is) fit = subst (StepFits flags) (sym is) tt
 

@@ -12,8 +12,8 @@ use Rattle.asm_macro.specs.declared.faults.ExpandFault.{ExpandFault}
 use Rattle.asm_macro.specs.declared.faults.ExpandFault.TheVariants as expand
 use Rattle.asm_place.specs.declared.place_faults.FaultAt.{FaultAt}
 use Rattle.asm_functions.specs.FollowedSource.{FollowedSource, nothing_followed}
-use Rattle.asm_front.specs.Synthesis.{Synthesis}
-use Rattle.asm_front.specs.Ending.{Flags}
+use Rattle.source_ends.specs.Synthesis.{Synthesis}
+use Rattle.source_ends.specs.Ending.{Flags}
 use Rattle.asm_front.specs.Sources.{MainSource, file, given, name_of, source_in}
 use Rattle.asm_front.specs.Assembly.{faulty, shown_files, main_file, too_large, nothing_yet, placed_after, told_of, expansion_of, main_assembly, StepIsMade, FileIsMade, IsMade}
 use Rattle.asm_front.specs.Answering.{IsAnswered, IsAnswer, IsFitAnswer, AnswersSource, TextIsMade, IsFitText, AnswersText, IsAssembled, AnswersMain, CountsText, came_of, text_assembly}

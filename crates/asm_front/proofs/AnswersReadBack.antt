@@ -1,10 +1,10 @@
 -- The object of an answer reads back as the statements that its source hands out.
 use Rattle.std.proofs.Common.{◌≡◌, ℕ, List, Option, None, Some, Result, Ok, Err}
 use Rattle.asm_base.specs.Inputs.{Contents}
-use Rattle.asm_front.specs.Ending.{Flags}
+use Rattle.source_ends.specs.Ending.{Flags}
 use Rattle.asm_front.specs.Sources.{MainSource, name_of, source_in}
 use Rattle.asm_front.specs.Outcome.{AssemblesFile, Assembles}
-use Rattle.asm_front.specs.declared.ending.NotedObject.{NotedObject}
+use Rattle.source_ends.specs.declared.ending.NotedObject.{NotedObject}
 use Rattle.asm_front.specs.Assembly.{assembled, assembly_of, handed_of, SourceIsMade, FileIsMade, IsMade}
 use Rattle.asm_front.specs.ReadsBack.{ReadsBack, AnswerReadsBack, ReadsBackFrom}
 use Rattle.asm_front.specs.declared.answers.Assembled.{Assembled}

@@ -14,11 +14,11 @@ use Rattle.item_rows.specs.ItemRows.{row_count}
 use Rattle.asm_relax.specs.KeptSections.{LayoutsKeepSections}
 use Rattle.asm_relax.specs.Layout.{laid_out, laid_by}
 use Rattle.asm_relax.specs.Settling.{LaidItem, LaidSections, planned, settled_sections, layout_of}
-use Rattle.cfi_directives.specs.declared.frames.Frame.{Frame}
 use Rattle.cfi_directives.specs.Procedures.{frames_of}
 use Rattle.eh_frame.specs.Additions.{AddsLittle, TablesAddLittle}
-use Rattle.eh_frame.specs.Pieces.{Tables, tables_of}
-use Rattle.eh_frame.specs.Placing.{placed}
+use Rattle.table_pieces.specs.Pieces.{Tables, tables_of}
+use Rattle.line_table.specs.Additions as line_table
+use Rattle.line_table.specs.Placing as line_table_placing
 use Rattle.elf_object.specs.Limits.{NumbersFit}
 use Rattle.object_laws.specs.SectionPlaces.{SourceSectionsFound}
 use Rattle.object_laws.specs.SmallSources.{IsSmallSource, ObjectsFit}
@@ -28,15 +28,16 @@ use Rattle.asm_place.specs.declared.place_faults.FaultAt.{FaultAt}
 use Rattle.asm_values.specs.State.{Placed, nothing_placed}
 use Rattle.asm_macro.specs.Placing.{Step, ended}
 use Rattle.asm_functions.specs.FollowedSource.{FollowedSource}
-use Rattle.asm_front.specs.Ending.{Flags, framed, with_made}
-use Rattle.asm_front.specs.Fitting.{LayoutFits, TablesFit, StepFits, IsReadable, ObjectIsReadable}
-use Rattle.readback_laws.specs.ReadsBack.{FramesReadBack}
+use Rattle.source_ends.specs.Ending.{Flags, framed, lines_behind, tabled, with_made}
+use Rattle.source_ends.specs.Fitting.{LayoutFits, TablesFit}
+use Rattle.asm_front.specs.Fitting.{StepFits, IsReadable, ObjectIsReadable}
 use Rattle.asm_front.specs.ReadsBack.{ReadsBack}
 
 -- what lower layers say of small sources and their objects
 pub record SmallFacts : Type 0 where
   pub small : (statements : List TokenStatement) (no_warn : Bool) (placed : Placed) → place_all statements (nothing_placed no_warn) ≡ Ok placed → IsSmall placed
   pub little : TablesAddLittle
+  pub lines_little : line_table.TablesAddLittle
   pub layouts : LayoutsKeepSections
   pub fit : ObjectsFit
   pub found : SourceSectionsFound
@@ -67,37 +68,42 @@ names_settled symbols sections = names_out _ _ sections
 names_laid : LayoutsKeepSections → (symbols : SymbolMap) (sections : List LooseSection) (laid : LaidSections) → layout_of symbols sections ≡ Ok laid → names_of laid ≡ names_of sections
 names_laid layouts symbols sections laid settles = ap (λ (all : LaidSections). names_of all) (layouts.settled symbols sections laid settles) ∙ names_settled symbols sections
 
--- the names with a frame table: at most one more
-with_table : (before after : List (List ℕ)) → (after ≡ before) ⊎ (after ≡ before ++ codes ".eh_frame" ∷ []) → All IsShort before → length before ≤ 30003
-    → All IsShort after × (length after ≤ 30004)
-with_table before after (inl same) short few = (subst (All IsShort) (sym same) short, let long = ap length same in omega arith)
-with_table before after (inr more) short few =
-    let long : length after ≡ length before + 1 = ap length more ∙ length-append before (codes ".eh_frame" ∷ []) in
-    (subst (All IsShort) (sym more) (All-push IsShort before (codes ".eh_frame") short (omega arith)), omega arith)
+-- the names with a table: at most one more
+with_table : (name : List ℕ) (before after : List (List ℕ)) → IsShort name → (after ≡ before) ⊎ (after ≡ before ++ name ∷ []) → All IsShort before
+    → All IsShort after × (length after ≤ length before + 1)
+with_table name before after own (inl same) short = (subst (All IsShort) (sym same) short, let long = ap length same in omega arith)
+with_table name before after own (inr more) short =
+    let long : length after ≡ length before + 1 = ap length more ∙ length-append before (name ∷ []) in
+    (subst (All IsShort) (sym more) (All-push IsShort before name short own), omega arith)
 
 -- the limits of symbols, as numbers
 within_limits : (count size : ℕ) → (nat_le count (2 ^ 24) && nat_le size (2 ^ 31)) ≡ true → (count ≤ 2 ^ 24) × (size ≤ 2 ^ 31)
 within_limits count size within = (grind (arith, nat_tests), grind (arith, nat_tests))
 
--- what statements place, with its frame table and laid out, is a small source
-small_source : SmallFacts → (whole : Placed) (tables : Tables) (laid : LaidSections) → IsSmall whole → framed whole ≡ Ok tables → layout_of tables.symbols tables.sections ≡ Ok laid
-    → length tables.symbols.symbols ≤ 2 ^ 24 + 2 ^ 31 → IsSmallSource tables.symbols laid
-small_source facts whole tables laid small frames settles few =
-    let adds : AddsLittle (tables_of whole.table.symbols whole.sections) tables = facts.little (frames_of whole.procedures) (tables_of whole.table.symbols whole.sections) tables frames in
+-- what statements place, with its tables and laid out, is a small source
+small_source : SmallFacts → (whole : Placed) (with_frames tables : Tables) (laid : LaidSections) → IsSmall whole → framed whole ≡ Ok with_frames
+    → line_table_placing.placed whole.lines with_frames ≡ Ok tables → layout_of tables.symbols tables.sections ≡ Ok laid
+    → length tables.symbols.symbols ≤ 2 ^ 24 + 2 ^ 31 + 2 ^ 30 → IsSmallSource tables.symbols laid
+small_source facts whole with_frames tables laid small frames lines settles few =
+    let adds : AddsLittle (tables_of whole.table.symbols whole.sections) with_frames =
+    facts.little (frames_of whole.procedures) (tables_of whole.table.symbols whole.sections) with_frames frames in
+    let lines_add : line_table.AddsLittle with_frames tables = facts.lines_little whole.lines with_frames tables lines in
     let short : All IsShort (names_of whole.sections) = All-map IsShort (λ (section : LooseSection). section.name) whole.sections small.sections.named in
     let count : length (names_of whole.sections) ≡ length whole.sections = length-map whole.sections (λ (section : LooseSection). section.name) in
     let most = small.sections.few in
-    let named = with_table (names_of whole.sections) (names_of tables.sections) adds.sections short (omega arith) in
+    let first = with_table (codes ".eh_frame") (names_of whole.sections) (names_of with_frames.sections) (omega arith) adds.sections short in
+    let named = with_table (codes ".debug_line") (names_of with_frames.sections) (names_of tables.sections) (omega arith) lines_add.sections first.0 in
     let same : names_of laid ≡ names_of tables.sections = names_laid facts.layouts tables.symbols tables.sections laid settles in
     let laid_short : All IsShort (names_of laid) = subst (All IsShort) (sym same) named.0 in
     let laid_count : length (names_of laid) ≡ length laid = length-map laid (λ (section : SectionOf LaidItem). section.name) in
     let names_count : length (names_of laid) ≡ length (names_of tables.sections) = ap length same in
+    let first_names = first.1 in
     let most_names = named.1 in
     let limits = within_limits (length whole.table.symbols.symbols + length whole.table.symbols.files) (names_size whole.table.symbols) small.symbols in
     let symbols = limits.0 in
     let bytes = limits.1 in
-    let files : length tables.symbols.files ≡ length whole.table.symbols.files = ap length adds.files in
-    let size : names_size tables.symbols ≡ names_size whole.table.symbols = adds.size in
+    let files : length tables.symbols.files ≡ length whole.table.symbols.files = ap length (lines_add.files ∙ adds.files) in
+    let size : names_size tables.symbols ≡ names_size whole.table.symbols = lines_add.size ∙ adds.size in
     record {
       section_count = omega arith;
       section_names = short_sections laid laid_short;
@@ -105,31 +111,22 @@ small_source facts whole tables laid small frames settles few =
       name_bytes = omega arith;
     }
 
--- a frame table brings few symbols
-few_symbols : (object : List ℕ) (whole : Placed) (tables : Tables) (laid : LaidSections) → IsSmall whole → FramesReadBack object whole tables.symbols laid
-    → (frames : List Frame) → frames_of whole.procedures ≡ frames → placed frames (tables_of whole.table.symbols whole.sections) ≡ Ok tables
-    → length tables.symbols.symbols ≤ 2 ^ 24 + 2 ^ 31
-unfolding placed
-few_symbols object whole tables laid small read [] is made =
-    let limits = within_limits (length whole.table.symbols.symbols + length whole.table.symbols.files) (names_size whole.table.symbols) small.symbols in
-    let most = limits.0 in
-    let same : tables_of whole.table.symbols whole.sections ≡ tables = cc in
-    let count : length whole.table.symbols.symbols ≡ length tables.symbols.symbols = ap (λ (t : Tables). length t.symbols.symbols) same in
-    omega arith
-few_symbols object whole tables laid small read (frame ∷ frames) is made = (read frame frames is).few
-
 -- one answer has one value
 same_answer : {A E : Type 0} (answer : Result A E) (one other : A) → answer ≡ Ok one → answer ≡ Ok other → one ≡ other
 same_answer answer one other is also = cc
 
+-- the tables of what was placed
+tabled_is : (whole : Placed) (with_frames tables : Tables) → framed whole ≡ Ok with_frames → line_table_placing.placed whole.lines with_frames ≡ Ok tables → tabled whole ≡ Ok tables
+tabled_is whole with_frames tables frames lines = ap (lines_behind whole.lines) frames ∙ lines
+
 -- where the program's own numbers fit, all of the object do, and its sections are found
-readable : SmallFacts → (object : List ℕ) (whole : Placed) (tables : Tables) (laid : LaidSections) → IsSmall whole → framed whole ≡ Ok tables
-    → layout_of tables.symbols tables.sections ≡ Ok laid → FramesReadBack object whole tables.symbols laid → TablesFit (framed whole) → IsReadable tables.symbols laid
-readable facts object whole tables laid small frames settles read fit =
-    let of_tables : LayoutFits tables.symbols (layout_of tables.symbols tables.sections) = subst TablesFit frames fit in
+readable : SmallFacts → (whole : Placed) (with_frames tables : Tables) (laid : LaidSections) → IsSmall whole → framed whole ≡ Ok with_frames
+    → line_table_placing.placed whole.lines with_frames ≡ Ok tables → layout_of tables.symbols tables.sections ≡ Ok laid
+    → length tables.symbols.symbols ≤ 2 ^ 24 + 2 ^ 31 + 2 ^ 30 → TablesFit (tabled whole) → IsReadable tables.symbols laid
+readable facts whole with_frames tables laid small frames lines settles few fit =
+    let of_tables : LayoutFits tables.symbols (layout_of tables.symbols tables.sections) = subst TablesFit (tabled_is whole with_frames tables frames lines) fit in
     let numbers : NumbersFit tables.symbols laid = subst (LayoutFits tables.symbols) settles of_tables in
-    let few = few_symbols object whole tables laid small read (frames_of whole.procedures) refl frames in
-    let all = facts.fit tables.symbols laid numbers (small_source facts whole tables laid small frames settles few) in
+    let all = facts.fit tables.symbols laid numbers (small_source facts whole with_frames tables laid small frames lines settles few) in
     record { fits = all.0; few = all.1; sections = facts.found tables.symbols laid all.0 }
 
 -- what is said of the object of one layout is said of the one that it is made of
@@ -137,16 +134,16 @@ pub object_is_readable : SmallFacts → (flags : Flags) (handed : List TokenStat
     → ReadsBack flags handed object → came ≡ ended names f → place_all handed (nothing_placed flags.no_warn) ≡ Ok f.placed → StepFits flags came → ObjectIsReadable flags handed object
 object_is_readable facts flags handed object names came f read is places fit made =
     let whole = f.placed in
-    let end : TablesFit (framed (with_made flags.scfi whole)) = subst (StepFits flags) is fit in
+    let end : TablesFit (tabled (with_made flags.scfi whole)) = subst (StepFits flags) is fit in
     let one : whole ≡ made.whole = same_answer _ whole made.whole places made.places in
-    let other : read.made.whole ≡ made.whole = same_answer _ read.made.whole made.whole read.made.places made.places in
-    let tables : read.made.tables ≡ made.tables = same_answer _ read.made.tables made.tables read.made.frames (ap (λ (w : Placed). framed (with_made flags.scfi w)) other ∙ made.frames) in
-    let laid : read.made.laid ≡ made.laid =
-    same_answer _ read.made.laid made.laid read.made.settles (ap (λ (t : Tables). layout_of t.symbols t.sections) tables ∙ made.settles) in
+    let other : read.statements_read.made.whole ≡ made.whole = same_answer _ read.statements_read.made.whole made.whole read.statements_read.made.places made.places in
+    let framed_same : read.statements_read.made.framed ≡ made.framed =
+    same_answer _ read.statements_read.made.framed made.framed read.statements_read.made.frames (ap (λ (w : Placed). framed (with_made flags.scfi w)) other ∙ made.frames) in
+    let tables : read.statements_read.made.tables ≡ made.tables =
+    same_answer _ read.statements_read.made.tables made.tables read.statements_read.made.lines
+    (ap (λ (w : Placed). line_table_placing.placed w.lines read.statements_read.made.framed) other ∙ (ap (line_table_placing.placed made.whole.lines) framed_same ∙ made.lines)) in
     let full = with_made flags.scfi made.whole in
-    let first = subst (λ (w : Placed). FramesReadBack object (with_made flags.scfi w) read.made.tables.symbols read.made.laid) other read.frames in
-    let second = subst (λ (t : Tables). FramesReadBack object full t.symbols read.made.laid) tables first in
-    let frames : FramesReadBack object full made.tables.symbols made.laid = subst (λ (l : LaidSections). FramesReadBack object full made.tables.symbols l) laid second in
+    let few = subst (λ (t : Tables). length t.symbols.symbols ≤ 2 ^ 24 + 2 ^ 31 + 2 ^ 30) tables read.statements_read.few in
     let small = facts.small handed flags.no_warn made.whole made.places in
-    readable facts object full made.tables made.laid (record { sections = small.sections; symbols = small.symbols }) made.frames made.settles frames
-    (subst (λ (w : Placed). TablesFit (framed (with_made flags.scfi w))) one end)
+    readable facts full made.framed made.tables made.laid (record { sections = small.sections; symbols = small.symbols }) made.frames made.lines made.settles few
+    (subst (λ (w : Placed). TablesFit (tabled (with_made flags.scfi w))) one end)

@@ -1,5 +1,5 @@
 -- What is made of a source is made of the statements that its expansion hands out.
-use Rattle.std.proofs.Common.{◌≡◌, ℕ, Bool, true, false, cond, nat_lt, ◌≤◌, List, [], ◌∷◌, length, map, fold, Option, None, Some, Result, Ok, Err, refl, sym, subst, ◌∙◌, arith}
+use Rattle.std.proofs.Common.{◌≡◌, ℕ, Bool, true, false, cond, nat_lt, ◌≤◌, List, [], ◌∷◌, length, map, fold, Option, Some, Result, Ok, Err, refl, sym, subst, ◌∙◌, arith}
 use Rattle.std.proofs.lemmas.Bool.Decides.{nat_tests}
 use Rattle.asm_base.specs.Inputs.{Contents}
 use Rattle.asm_base.specs.WholeFile.{most_bytes}
@@ -12,17 +12,16 @@ use Rattle.asm_macro.specs.Expansion.{started}
 use Rattle.asm_macro.specs.Laws.{PlacesHanded}
 use Rattle.asm_macro.specs.Placing.{Step, goes, ended, fails, refused, misses, untold, expansion, handed, most_turns, steps}
 use Rattle.asm_base.specs.Refusals.{◌>>=◌}
-use Rattle.asm_functions.specs.FollowedSource.{FollowedSource, place_followed, follow_all, placed_part, notes_of}
+use Rattle.asm_functions.specs.FollowedSource.{FollowedSource, place_followed, follow_all, placed_part}
 use Rattle.asm_place.specs.Sources.{place_all}
 use Rattle.asm_place.specs.declared.place_faults.FaultAt.{FaultAt}
 use Rattle.asm_values.specs.State.{nothing_placed}
-use Rattle.asm_base.specs.declared.notes.Noted.{Noted}
 use Rattle.asm_front.specs.Assembly.{Assembly, assembled, faulty, nothing_yet, placed_after, told_of, ended_by, assembly_by, expansion_of, assembly_of, handed_by, handed_of, shown_files, main_file, too_large, StepIsMade, SourceIsMade}
-use Rattle.asm_front.specs.Synthesis.{Synthesis, IsMadeAt}
-use Rattle.asm_front.specs.Ending.{Flags, finished, procedures_by, with_made, unless_fault, followed_end}
+use Rattle.source_ends.specs.Synthesis.{IsMadeAt}
+use Rattle.source_ends.specs.Ending.{Flags, followed_end}
+use Rattle.source_ends.specs.Finished.{ObjectsAreFinished}
 use Rattle.asm_front.specs.ReadsBack.{Origin}
-use Rattle.asm_front.specs.declared.ending.NotedObject.{NotedObject}
-use Rattle.asm_front.proofs.FinishedObjects.{IsFinished, finished_is}
+use Rattle.source_ends.specs.declared.ending.NotedObject.{NotedObject}
 
 -- STATEMENTS IN ORDER
 
@@ -130,12 +129,6 @@ pub made_at_end : (flags : Flags) (contents : Contents) (name source : List ℕ)
 made_at_end flags contents name source made files names f is so comes =
     subst (StepIsMade flags.scfi) comes (so (source_fits flags contents name source made files is))
 
--- an object has no fault of synthesis
-pub unless_fault_is : (scfi : Option Synthesis) (notes : List Noted) (answer : Result NotedObject FaultAt) (made : NotedObject) → unless_fault scfi notes answer ≡ Ok made → answer ≡ Ok made
-unless_fault_is None notes answer made is = is
-unless_fault_is (Some (Ok frames)) notes answer made is = is
-unless_fault_is (Some (Err at)) notes answer made is = absurd cc
-
 -- what the statements place that are handed out makes the object
 pub handed_placed : Follows → (flags : Flags) (contents : Contents) (name source : List ℕ) (f : FollowedSource)
     → follow_all (handed_by flags contents name (statements_of main_file source)) (nothing_yet flags) ≡ Ok f
@@ -143,16 +136,19 @@ pub handed_placed : Follows → (flags : Flags) (contents : Contents) (name sour
 unfolding handed_of
 handed_placed follows flags contents name source f is = follows (handed_by flags contents name (statements_of main_file source)) (nothing_yet flags) f is
 
--- they come to the object with a frame table and a layout
-abbrev pub finish_of : (flags : Flags) (f : FollowedSource) (made : NotedObject) → followed_end flags f ≡ Ok made → IsFinished (with_made flags.scfi f.placed) made.object
-finish_of flags f made ends =
-    finished_is flags.fatal_warnings (length f.functions) (with_made flags.scfi f.placed) (notes_of f) made
-    (unless_fault_is flags.scfi (notes_of f)
-    (finished flags.fatal_warnings (length f.functions) f.placed.sections f.placed.table (procedures_by flags.scfi f.placed.procedures) (notes_of f)) made ends)
-
--- so it is made of them
-abbrev pub origin_of : (flags : Flags) (handed : List TokenStatement) (f : FollowedSource) (made : NotedObject) → place_all handed (nothing_placed flags.no_warn) ≡ Ok f.placed
+-- and it is made of them
+abbrev pub origin_of : ObjectsAreFinished → (flags : Flags) (handed : List TokenStatement) (f : FollowedSource) (made : NotedObject) → place_all handed (nothing_placed flags.no_warn) ≡ Ok f.placed
     → followed_end flags f ≡ Ok made → Origin flags handed made.object
-origin_of flags handed f made places ends =
-    let end = finish_of flags f made ends in
-    record { whole = f.placed; tables = end.tables; laid = end.laid; places = places; frames = end.frames; settles = end.settles; image = end.image }
+origin_of finished flags handed f made places ends =
+    let end = finished flags f made ends in
+    record {
+      whole = f.placed;
+      framed = end.framed_tables;
+      tables = end.tables;
+      laid = end.laid;
+      places = places;
+      frames = end.frames;
+      lines = end.lines;
+      settles = end.settles;
+      image = end.image;
+    }

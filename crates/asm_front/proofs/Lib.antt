@@ -1,7 +1,4 @@
 -- The proofs of this crate.
-mod Lists
-mod FinishedObjects
-mod FaultLaws
 mod ToldFiles
 mod AnswerLemmas
 mod AnswerFacts
@@ -11,13 +8,7 @@ mod FittingObjects
 mod AnswersReadBack
 mod AnswersFit
 mod ObjectSamples
-mod RowCounts
-mod PlacesInOrder
-mod FrameAnswers
 mod OrderedStates
-mod SynthesizedFrames
-mod OneSynthesis
-mod ReadyFrames
 mod HandedStatements
 mod SynthesizedEnds
 mod AnswersMade

@@ -11,8 +11,8 @@ use Rattle.asm_functions.specs.Standing.{StandsInOrder}
 use Rattle.code_functions.specs.Recorded.{Recorded}
 use Rattle.code_functions.specs.Seen.{all_seen}
 use Rattle.code_functions.specs.declared.items.CodeItem.{CodeItem}
-use Rattle.asm_front.specs.Synthesis.{IsOrdered, IsReady}
-use Rattle.asm_front.proofs.PlacesInOrder.{all_ready}
+use Rattle.source_ends.specs.Synthesis.{FunctionsAreReady, IsReady}
+use Rattle.asm_front.specs.PlacerStates.{IsOrdered}
 
 -- nothing is placed yet
 pub first_ordered : (no_warn asked : Bool) → IsOrdered (nothing_followed no_warn asked)
@@ -67,9 +67,9 @@ abbrev pub StandAtEnd : Type 0
 StandAtEnd = (statements : List TokenStatement) (no_warn asked : Bool) (f : FollowedSource) → follow_all statements (nothing_followed no_warn asked) ≡ Ok f
     → All (StandsInOrder f.placed.sections) f.functions
 
-pub ordered_ready : StandAtEnd → (f : FollowedSource) (functions : List (Recorded CodeItem)) → IsOrdered f → all_seen functions ≡ f.functions → All (IsReady f.placed.sections) functions
-ordered_ready stand f functions (inl come) is =
-    all_ready f.placed.sections functions
+pub ordered_ready : FunctionsAreReady → StandAtEnd → (f : FollowedSource) (functions : List (Recorded CodeItem)) → IsOrdered f → all_seen functions ≡ f.functions → All (IsReady f.placed.sections) functions
+ordered_ready ready stand f functions (inl come) is =
+    ready f.placed.sections functions
     (subst (All (StandsInOrder f.placed.sections)) (sym is) (stand come.statements come.no_warn come.asked f come.comes))
-ordered_ready stand f functions (inr none) is =
-    all_ready f.placed.sections functions (subst (All (StandsInOrder f.placed.sections)) (sym (is ∙ none.1)) (All-nil (StandsInOrder f.placed.sections)))
+ordered_ready ready stand f functions (inr none) is =
+    ready f.placed.sections functions (subst (All (StandsInOrder f.placed.sections)) (sym (is ∙ none.1)) (All-nil (StandsInOrder f.placed.sections)))

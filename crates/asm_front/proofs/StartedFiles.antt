@@ -14,9 +14,9 @@ use Rattle.asm_functions.specs.FollowedSource.{FollowedSource}
 use Rattle.asm_front.specs.Sources.{file, given, name_of, source_in, MainSource}
 use Rattle.asm_front.specs.Answering.{text_assembly, StartsIncluded, StartsTexts}
 use Rattle.asm_front.specs.Assembly.{Assembly, included_by, shown_files, main_file, placed_after, told_of, nothing_yet, ended_by, known_by, expansion_of, assembly_of, main_assembly}
-use Rattle.asm_front.specs.Ending.{Flags, followed_end}
+use Rattle.source_ends.specs.Ending.{Flags, followed_end}
 use Rattle.asm_front.specs.Outcome.{StartsFiles, StartsFirst, StartsKnown, StartsThese}
-use Rattle.asm_front.specs.declared.ending.NotedObject.{NotedObject}
+use Rattle.source_ends.specs.declared.ending.NotedObject.{NotedObject}
 use Rattle.asm_front.proofs.WholeSources.{Never, small_given, text_of_file}
 
 -- THE SOURCE ALONE

@@ -1,9 +1,8 @@
 -- The end of a source by what synthesis comes to, and the answers for it.
-use Rattle.std.proofs.Common.{◌≡◌, ℕ, Bool, true, false, cond, List, [], Option, None, Some, Result, Ok, Err, length, refl, sym, ap, ◌∙◌, subst, append-nil, string_bytes}
+use Rattle.std.proofs.Common.{◌≡◌, ℕ, Bool, true, false, cond, List, [], Option, None, Some, Result, Ok, Err, length, refl, sym, ap, ◌∙◌, subst, string_bytes}
 use Rattle.std.proofs.lemmas.List.{length-map}
 use Rattle.std.specs.Prelude.{OnOk}
 use Rattle.asm_base.specs.Refusals.{Returns}
-use Rattle.asm_base.specs.declared.faults.Fault.TheVariants.{Scfi}
 use Rattle.asm_base.specs.declared.notes.Noted.{Noted}
 use Rattle.asm_base.specs.declared.refusals.Refusal.{Refusal}
 use Rattle.asm_base.specs.declared.refusals.Refusal.TheVariants as refusal
@@ -17,127 +16,94 @@ use Rattle.macro_words.specs.declared.causes.MacroCause.{MacroCause}
 use Rattle.asm_place.specs.Sources.{fault_at}
 use Rattle.asm_place.specs.declared.place_faults.FaultAt.{FaultAt}
 use Rattle.asm_uses.specs.Tables.{Table}
-use Rattle.cfi_directives.specs.declared.frames.Frame.{Frame}
 use Rattle.cfi_directives.specs.Procedures.{Procedures, no_procedures}
 use Rattle.code_functions.specs.declared.items.CodeItem.{CodeItem}
 use Rattle.code_functions.specs.Recorded.{Recorded, all_closed}
 use Rattle.code_functions.specs.Seen.{all_seen, mapped, seen as looked}
-use Rattle.eh_frame.specs.Pieces.{tables_of}
-use Rattle.eh_frame.specs.Placing.{placed}
+use Rattle.line_directives.specs.Taking.{LineTable}
 use Rattle.asm_functions.specs.FollowedSource.{FollowedSource, notes_of}
 use Rattle.asm_functions.specs.Following.{end_of}
-use Rattle.asm_front.specs.Synthesis.{Synthesis, AreFrames, IsFirstRefused, ComeTo, IsSynthesis, IsMadeAt}
-use Rattle.asm_front.specs.declared.synthesizing.ItemFaultAt.{ItemFaultAt}
-use Rattle.asm_front.specs.Ending.{with_frames, framed, framed_end, finished, procedures_by, with_made, unless_fault}
+use Rattle.source_ends.specs.Synthesis.{Synthesis, ComeTo, IsSynthesis, IsMadeAt}
+use Rattle.source_ends.specs.Ending.{with_tables, tabled, finished, procedures_by, with_made, unless_fault}
 use Rattle.asm_front.specs.Assembly.{assembled, faulty, macro_fault, shown_files, ended_by, StepIsMade}
 use Rattle.asm_front.specs.Answering.{IsAnswered, IsFitAnswer, AnswersSource, came_of, line_answer}
-use Rattle.asm_front.specs.Fitting.{TablesFit, EndsWithFrames, AnswersWithFrames, EndsFollowed, AnswersFollowed}
+use Rattle.source_ends.specs.Fitting.{TablesFit, EndsWithFrames, AnswersWithFrames}
+use Rattle.asm_front.specs.Fitting.{EndsFollowed, AnswersFollowed}
 use Rattle.asm_front.specs.Outcome.{flags_asked}
 use Rattle.asm_front.specs.declared.answers.Asked.{Asked}
 use Rattle.asm_front.specs.declared.answers.Assembled.{Assembled}
 use Rattle.asm_front.specs.declared.answers.AsmFault.{AsmFault}
 use Rattle.asm_front.specs.declared.answers.AsmFault.TheVariants.{Source, Read, NoMemory}
-use Rattle.asm_front.specs.declared.ending.NotedObject.{NotedObject}
+use Rattle.source_ends.specs.declared.ending.NotedObject.{NotedObject}
 use Rattle.asm_front.proofs.AnswerFacts.{lines_answered}
-
--- FRAMES IN PLACE OF PROCEDURES
-
--- the end with frames in place of procedures is that with their table
-finished_frames : (fatal : Bool) (count : ℕ) (sections : List LooseSection) (table : Table) (frames : List Frame) (notes : List Noted)
-    → finished fatal count sections table (record { closed = frames; begun = None }) notes
-    ≡ framed_end fatal count table frames notes (placed frames (tables_of table.symbols sections))
-unfolding finished
-finished_frames fatal count sections table frames notes =
-    ap (λ (all : List Frame). framed_end fatal count table all notes (placed all (tables_of table.symbols sections))) (append-nil frames)
-
-tables_frames : (sections : List LooseSection) (table : Table) (frames : List Frame) → TablesFit (placed frames (tables_of table.symbols sections))
-    → TablesFit (with_frames (record { closed = frames; begun = None }) table.symbols sections)
-tables_frames sections table frames fit = subst (λ (all : List Frame). TablesFit (placed all (tables_of table.symbols sections))) (sym (append-nil frames)) fit
-
--- all functions have frames
-pub frames_made : (fatal : Bool) (count : ℕ) (sections : List LooseSection) (table : Table) (functions : List (Recorded CodeItem)) (notes : List Noted) (frames : List Frame)
-    (result : Result NotedObject (Refusal FaultAt)) → AreFrames table.symbols sections functions frames
-    → Returns result (framed_end fatal count table frames notes (placed frames (tables_of table.symbols sections)))
-    → OnOk result (TablesFit (placed frames (tables_of table.symbols sections))) → AnswersWithFrames fatal count sections table functions notes result
-frames_made fatal count sections table functions notes frames (Ok made) are returns fits = record {
-  made = Ok frames;
-  comes = are;
-  answers = finished_frames fatal count sections table frames notes ∙ returns;
-  fits = tables_frames sections table frames fits;
-}
-frames_made fatal count sections table functions notes frames (Err (refusal.Fault at)) are returns fits = record {
-  made = Ok frames;
-  comes = are;
-  answers = finished_frames fatal count sections table frames notes ∙ returns;
-  fits = tt;
-}
-frames_made fatal count sections table functions notes frames (Err refusal.NoMemory) are returns fits = tt
-
--- a function has a fault
-pub fault_made : (fatal : Bool) (count : ℕ) (sections : List LooseSection) (table : Table) (functions : List (Recorded CodeItem)) (notes : List Noted) (at : ItemFaultAt)
-    → IsFirstRefused table.symbols sections functions at
-    → AnswersWithFrames fatal count sections table functions notes (Err (refusal.Fault (fault_at (Scfi at.fault) at.pos notes)))
-fault_made fatal count sections table functions notes at is = record { made = Err at; comes = is; answers = refl; fits = tt }
 
 -- THE END OF ALL THAT WAS PLACED
 
 -- the end by what synthesis comes to
 abbrev end_by : Option Synthesis → Bool → FollowedSource → Result NotedObject FaultAt
-end_by made fatal f = unless_fault made (notes_of f) (finished fatal (length f.functions) f.placed.sections f.placed.table (procedures_by made f.placed.procedures) (notes_of f))
+end_by made fatal f =
+    unless_fault made (notes_of f)
+    (finished fatal (length f.functions) f.placed.sections f.placed.table (procedures_by made f.placed.procedures) f.placed.lines (notes_of f))
 
 -- the end by these parts
-abbrev end_of_parts : Option Synthesis → Bool → ℕ → List LooseSection → Table → Procedures → List Noted → Result NotedObject FaultAt
-end_of_parts made fatal count sections table procedures notes = unless_fault made notes (finished fatal count sections table (procedures_by made procedures) notes)
+abbrev end_of_parts : Option Synthesis → Bool → ℕ → List LooseSection → Table → Procedures → LineTable → List Noted → Result NotedObject FaultAt
+end_of_parts made fatal count sections table procedures lines notes =
+    unless_fault made notes (finished fatal count sections table (procedures_by made procedures) lines notes)
 
 -- an answer for the end where it is not asked for synthesis, and where it is
 abbrev EndsAs : Bool → Bool → FollowedSource → Result NotedObject FaultAt → Type 0
 EndsAs asked fatal f answer = (made : Synthesis) × IsMadeAt (cond asked (Some made) None) f × (end_by (cond asked (Some made) None) fatal f ≡ answer)
-    × OnOk answer (TablesFit (framed (with_made (cond asked (Some made) None) f.placed)))
+    × OnOk answer (TablesFit (tabled (with_made (cond asked (Some made) None) f.placed)))
 
 followed_as : (asked : Asked) (f : FollowedSource) (answer : Result NotedObject FaultAt) → EndsAs asked.scfi asked.fatal_warnings f answer → EndsFollowed asked f answer
 followed_as asked f answer is = record { made = is.0; comes = is.1; answers = is.2; fits = is.3 }
 
 -- the parts of what was placed and followed, with so many functions
-pub record ArePartsOf (f : FollowedSource) (count : ℕ) (sections : List LooseSection) (table : Table) (procedures : Procedures) (notes : List Noted) : Type 0 where
+pub record ArePartsOf (f : FollowedSource) (count : ℕ) (sections : List LooseSection) (table : Table) (procedures : Procedures) (lines : LineTable) (notes : List Noted) : Type 0 where
   pub count_is : count ≡ length f.functions
   pub sections_are : sections ≡ f.placed.sections
   pub table_is : table ≡ f.placed.table
   pub procedures_are : procedures ≡ f.placed.procedures
+  pub lines_are : lines ≡ f.placed.lines
   pub notes_are : notes ≡ notes_of f
 
 -- functions are counted as they are seen
 pub counted : (f : FollowedSource) (functions : List (Recorded CodeItem)) (count : ℕ) → count ≡ length functions → all_seen functions ≡ f.functions → count ≡ length f.functions
 counted f functions count is looks = is ∙ (sym (length-map functions (mapped looked)) ∙ ap length looks)
 
-module _ (f : FollowedSource) (count : ℕ) (sections : List LooseSection) (table : Table) (procedures : Procedures) (notes : List Noted) (parts : ArePartsOf f count sections table procedures notes) where
-  end_is : (made : Option Synthesis) (fatal : Bool) → end_by made fatal f ≡ end_of_parts made fatal count sections table procedures notes
+module _ (f : FollowedSource) (count : ℕ) (sections : List LooseSection) (table : Table) (procedures : Procedures) (lines : LineTable) (notes : List Noted)
+    (parts : ArePartsOf f count sections table procedures lines notes) where
+  end_is : (made : Option Synthesis) (fatal : Bool) → end_by made fatal f ≡ end_of_parts made fatal count sections table procedures lines notes
   end_is made fatal =
-      sym (ap (λ x. end_of_parts made fatal x sections table procedures notes) parts.count_is
-      ∙ ap (λ x. end_of_parts made fatal (length f.functions) x table procedures notes) parts.sections_are
-      ∙ ap (λ x. end_of_parts made fatal (length f.functions) f.placed.sections x procedures notes) parts.table_is
-      ∙ ap (λ x. end_of_parts made fatal (length f.functions) f.placed.sections f.placed.table x notes) parts.procedures_are
-      ∙ ap (λ x. end_of_parts made fatal (length f.functions) f.placed.sections f.placed.table f.placed.procedures x) parts.notes_are)
+      sym (ap (λ x. end_of_parts made fatal x sections table procedures lines notes) parts.count_is
+      ∙ ap (λ x. end_of_parts made fatal (length f.functions) x table procedures lines notes) parts.sections_are
+      ∙ ap (λ x. end_of_parts made fatal (length f.functions) f.placed.sections x procedures lines notes) parts.table_is
+      ∙ ap (λ x. end_of_parts made fatal (length f.functions) f.placed.sections f.placed.table x lines notes) parts.procedures_are
+      ∙ ap (λ x. end_of_parts made fatal (length f.functions) f.placed.sections f.placed.table f.placed.procedures x notes) parts.lines_are
+      ∙ ap (λ x. end_of_parts made fatal (length f.functions) f.placed.sections f.placed.table f.placed.procedures f.placed.lines x) parts.notes_are)
 
-  fits_is : (made : Option Synthesis) → TablesFit (with_frames (procedures_by made procedures) table.symbols sections) → TablesFit (framed (with_made made f.placed))
+  fits_is : (made : Option Synthesis) → TablesFit (with_tables (procedures_by made procedures) lines table.symbols sections) → TablesFit (tabled (with_made made f.placed))
   fits_is made fit =
-      subst (λ (x : List LooseSection). TablesFit (with_frames (procedures_by made f.placed.procedures) f.placed.table.symbols x)) parts.sections_are
-      (subst (λ (x : Table). TablesFit (with_frames (procedures_by made f.placed.procedures) x.symbols sections)) parts.table_is
-      (subst (λ (x : Procedures). TablesFit (with_frames (procedures_by made x) table.symbols sections)) parts.procedures_are fit))
+      subst (λ (x : List LooseSection). TablesFit (with_tables (procedures_by made f.placed.procedures) f.placed.lines f.placed.table.symbols x)) parts.sections_are
+      (subst (λ (x : Table). TablesFit (with_tables (procedures_by made f.placed.procedures) f.placed.lines x.symbols sections)) parts.table_is
+      (subst (λ (x : LineTable). TablesFit (with_tables (procedures_by made f.placed.procedures) x table.symbols sections)) parts.lines_are
+      (subst (λ (x : Procedures). TablesFit (with_tables (procedures_by made x) lines table.symbols sections)) parts.procedures_are fit)))
 
   -- without synthesis
-  plain_end : (fatal : Bool) (result : Result NotedObject (Refusal FaultAt)) (answer : Result NotedObject FaultAt) → finished fatal count sections table procedures notes ≡ answer
-      → OnOk answer (TablesFit (with_frames procedures table.symbols sections)) → EndsAs false fatal f answer
+  plain_end : (fatal : Bool) (result : Result NotedObject (Refusal FaultAt)) (answer : Result NotedObject FaultAt) → finished fatal count sections table procedures lines notes ≡ answer
+      → OnOk answer (TablesFit (with_tables procedures lines table.symbols sections)) → EndsAs false fatal f answer
   plain_end fatal result (Ok made) is fit = (Ok [], tt, end_is None fatal ∙ is, fits_is None fit)
   plain_end fatal result (Err at) is fit = (Ok [], tt, end_is None fatal ∙ is, tt)
 
   -- with it
-  made_procedures : (made : Synthesis) (fatal : Bool) → unless_fault (Some made) notes (finished fatal count sections table (procedures_by (Some made) no_procedures) notes)
-      ≡ end_of_parts (Some made) fatal count sections table procedures notes
+  made_procedures : (made : Synthesis) (fatal : Bool) → unless_fault (Some made) notes (finished fatal count sections table (procedures_by (Some made) no_procedures) lines notes)
+      ≡ end_of_parts (Some made) fatal count sections table procedures lines notes
   made_procedures (Ok frames) fatal = refl
   made_procedures (Err at) fatal = refl
 
-  made_fits : (made : Synthesis) (fatal : Bool) (noted : NotedObject) → unless_fault (Some made) notes (finished fatal count sections table (procedures_by (Some made) no_procedures) notes) ≡ Ok noted
-      → TablesFit (with_frames (procedures_by (Some made) no_procedures) table.symbols sections) → TablesFit (with_frames (procedures_by (Some made) procedures) table.symbols sections)
+  made_fits : (made : Synthesis) (fatal : Bool) (noted : NotedObject) → unless_fault (Some made) notes (finished fatal count sections table (procedures_by (Some made) no_procedures) lines notes) ≡ Ok noted
+      → TablesFit (with_tables (procedures_by (Some made) no_procedures) lines table.symbols sections)
+      → TablesFit (with_tables (procedures_by (Some made) procedures) lines table.symbols sections)
   made_fits (Ok frames) fatal noted is fit = fit
   made_fits (Err at) fatal noted is fit = absurd cc
 
@@ -151,7 +117,7 @@ module _ (f : FollowedSource) (count : ℕ) (sections : List LooseSection) (tabl
   }
 
   frames_end : (fatal : Bool) (functions : List (Recorded CodeItem)) (answer : Result NotedObject FaultAt) → all_seen functions ≡ f.functions
-      → EndsWithFrames fatal count sections table (all_closed (end_of sections) functions) notes answer → EndsAs true fatal f answer
+      → EndsWithFrames fatal count sections table lines (all_closed (end_of sections) functions) notes answer → EndsAs true fatal f answer
   frames_end fatal functions (Ok noted) seen is = (
     is.made,
     made_is functions is.made seen is.comes,
@@ -162,8 +128,8 @@ module _ (f : FollowedSource) (count : ℕ) (sections : List LooseSection) (tabl
       (is.made, made_is functions is.made seen is.comes, end_is (Some is.made) fatal ∙ (sym (made_procedures is.made fatal) ∙ is.answers), tt)
 
   -- the answer of the end where it is not asked for synthesis
-  pub plain_answers : (asked : Asked) (result : Result NotedObject (Refusal FaultAt)) → asked.scfi ≡ false → Returns result (finished asked.fatal_warnings count sections table procedures notes)
-      → OnOk result (TablesFit (with_frames procedures table.symbols sections)) → AnswersFollowed asked f result
+  pub plain_answers : (asked : Asked) (result : Result NotedObject (Refusal FaultAt)) → asked.scfi ≡ false → Returns result (finished asked.fatal_warnings count sections table procedures lines notes)
+      → OnOk result (TablesFit (with_tables procedures lines table.symbols sections)) → AnswersFollowed asked f result
   plain_answers asked (Ok made) off returns fit =
       followed_as asked f (Ok made) (subst (λ scfi. EndsAs scfi asked.fatal_warnings f (Ok made)) (sym off) (plain_end asked.fatal_warnings (Ok made) (Ok made) returns fit))
   plain_answers asked (Err (refusal.Fault at)) off returns fit =
@@ -172,7 +138,7 @@ module _ (f : FollowedSource) (count : ℕ) (sections : List LooseSection) (tabl
 
   -- and where it is
   pub frames_answer : (asked : Asked) (functions : List (Recorded CodeItem)) (result : Result NotedObject (Refusal FaultAt)) → asked.scfi ≡ true → all_seen functions ≡ f.functions
-      → AnswersWithFrames asked.fatal_warnings count sections table (all_closed (end_of sections) functions) notes result → AnswersFollowed asked f result
+      → AnswersWithFrames asked.fatal_warnings count sections table lines (all_closed (end_of sections) functions) notes result → AnswersFollowed asked f result
   frames_answer asked functions (Ok made) on seen is =
       followed_as asked f (Ok made) (subst (λ scfi. EndsAs scfi asked.fatal_warnings f (Ok made)) (sym on) (frames_end asked.fatal_warnings functions (Ok made) seen is))
   frames_answer asked functions (Err (refusal.Fault at)) on seen is =

@@ -33,7 +33,7 @@ use Rattle.asm_macro.specs.Placing.{Step, goes, ended, fails, refused, misses, u
 use Rattle.asm_place.specs.declared.place_faults.FaultAt.{FaultAt}
 use Rattle.asm_functions.specs.FollowedSource.{FollowedSource}
 use Rattle.asm_front.specs.Assembly.{placed_after, told_of, nothing_yet, expansion_of, main_file}
-use Rattle.asm_front.specs.Ending.{Flags}
+use Rattle.source_ends.specs.Ending.{Flags}
 
 -- the turn does not end at a file of which nothing is told
 abbrev is_told : Turn → Bool

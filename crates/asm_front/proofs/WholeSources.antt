@@ -7,7 +7,7 @@ use Rattle.asm_base.specs.declared.reading.TextFault.TheVariants.{TooLarge}
 use Rattle.asm_macro.specs.Placing.{Step, goes, ended, fails, refused, misses, untold}
 use Rattle.asm_place.specs.declared.place_faults.FaultAt.{FaultAt}
 use Rattle.asm_functions.specs.FollowedSource.{FollowedSource}
-use Rattle.asm_front.specs.Ending.{Flags}
+use Rattle.source_ends.specs.Ending.{Flags}
 use Rattle.asm_front.specs.Sources.{MainSource, file, given, name_of, source_in}
 use Rattle.asm_front.specs.Assembly.{Assembly, faulty, shown_files, main_file, too_large, assembly_by, known_by, expansion_of, assembly_of, given_assembly}
 use Rattle.asm_front.specs.Answering.{IsAnswered, text_assembly, AssemblesText, CountsText}

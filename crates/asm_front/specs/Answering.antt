@@ -14,8 +14,8 @@ use Rattle.asm_macro.specs.declared.faults.ExpandFault.TheVariants as expand
 use Rattle.asm_macro.specs.Placing.{Step, ended, fails, refused, untold}
 use Rattle.asm_macro.specs.Starts.{ReadsFront}
 use Rattle.asm_functions.specs.FollowedSource.{FollowedSource}
-use Rattle.asm_front.specs.Synthesis.{Synthesis}
-use Rattle.asm_front.specs.Ending.{Flags}
+use Rattle.source_ends.specs.Synthesis.{Synthesis}
+use Rattle.source_ends.specs.Ending.{Flags}
 use Rattle.asm_front.specs.Sources.{MainSource, main_of}
 use Rattle.asm_front.specs.Assembly.{Assembly, assembled, faulty, macro_fault, assembly_by, known_by, nothing_yet, expansion_of, main_file, StepIsMade, IsMade}
 use Rattle.asm_front.specs.Outcome.{Assembles, AssemblesKnown, CountsKnown, StartsKnown, WithSynthesis, flags_of, flags_asked}

@@ -17,11 +17,11 @@ use Rattle.macro_words.specs.Conditions.{Knowledge}
 use Rattle.asm_functions.specs.FollowedSource.{FollowedSource, nothing_followed, place_followed, placed_part, notes_of}
 use Rattle.asm_place.specs.Sources.{pos_at, fault_at}
 use Rattle.asm_place.specs.declared.place_faults.FaultAt.{FaultAt}
-use Rattle.asm_front.specs.Ending.{Flags, followed_end}
+use Rattle.source_ends.specs.Ending.{Flags, followed_end}
 use Rattle.asm_front.specs.Knowing.{told_by}
 use Rattle.asm_front.specs.Sources.{MainSource, file, given, name_of, source_in}
-use Rattle.asm_front.specs.Synthesis.{Synthesis, IsMadeAt}
-use Rattle.asm_front.specs.declared.ending.NotedObject.{NotedObject}
+use Rattle.source_ends.specs.Synthesis.{Synthesis, IsMadeAt}
+use Rattle.source_ends.specs.declared.ending.NotedObject.{NotedObject}
 
 -- what a source stands for: its object with the notes, or its first fault, or neither, where it starts a file that is not there; with the names
 -- of the files that it starts as messages show them, of which one that is not there is the last

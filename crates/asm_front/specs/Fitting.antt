@@ -1,21 +1,11 @@
 -- The numbers of the object that a source comes to fit their fields, and a reader finds its sections.
-use Rattle.std.specs.Prelude.{◌≡◌, ℕ, Bool, List, Option, None, Some, Result, Ok, Err, OnOk}
+use Rattle.std.specs.Prelude.{◌≡◌, ℕ, List, Option, None, Some, Result, Ok, Err, OnOk}
 use Rattle.asm_base.specs.Inputs.{Contents}
-use Rattle.asm_base.specs.declared.causes.FragCause.{FragCause}
-use Rattle.asm_base.specs.declared.notes.Noted.{Noted}
 use Rattle.asm_base.specs.declared.refusals.Refusal.{Refusal}
 use Rattle.asm_base.specs.declared.refusals.Refusal.TheVariants as refusal
-use Rattle.asm_frags.specs.Writing.{LooseSection}
-use Rattle.asm_uses.specs.Tables.{Table}
-use Rattle.cfi_directives.specs.Procedures.{no_procedures}
-use Rattle.code_functions.specs.declared.items.CodeItem.{CodeItem}
-use Rattle.code_functions.specs.Recorded.{Recorded}
 use Rattle.asm_lines.specs.NextStatements.{TokenStatement}
 use Rattle.asm_symbols.specs.SymbolMap.{SymbolMap}
-use Rattle.asm_relax.specs.declared.faults.LayoutFault.{LayoutFault}
-use Rattle.asm_relax.specs.Settling.{LaidSections, layout_of}
-use Rattle.eh_frame.specs.Pieces.{Tables}
-use Rattle.elf_object.specs.Limits.{NumbersFit}
+use Rattle.asm_relax.specs.Settling.{LaidSections}
 use Rattle.object_laws.specs.ObjectLimits.{ObjectFits}
 use Rattle.object_laws.specs.SmallSources.{HasFewHeaders}
 use Rattle.object_laws.specs.SectionPlaces.{SectionsFound}
@@ -23,8 +13,9 @@ use Rattle.asm_macro.specs.Placing.{Step, ended}
 use Rattle.asm_macro.specs.declared.faults.ExpandFault.{ExpandFault}
 use Rattle.asm_place.specs.declared.place_faults.FaultAt.{FaultAt}
 use Rattle.asm_functions.specs.FollowedSource.{FollowedSource}
-use Rattle.asm_front.specs.Synthesis.{Synthesis, ComeTo, IsMadeAt}
-use Rattle.asm_front.specs.Ending.{Flags, with_frames, framed, finished, procedures_by, with_made, unless_fault, followed_end}
+use Rattle.source_ends.specs.Synthesis.{Synthesis, IsMadeAt}
+use Rattle.source_ends.specs.Ending.{Flags, tabled, with_made, followed_end}
+use Rattle.source_ends.specs.Fitting.{TablesFit}
 use Rattle.asm_front.specs.Sources.{MainSource, name_of, source_in}
 use Rattle.asm_front.specs.Outcome.{flags_asked}
 use Rattle.asm_front.specs.Assembly.{expansion_of, handed_of}
@@ -32,47 +23,22 @@ use Rattle.asm_front.specs.ReadsBack.{Origin}
 use Rattle.asm_front.specs.declared.answers.Asked.{Asked}
 use Rattle.asm_front.specs.declared.answers.Assembled.{Assembled}
 use Rattle.asm_front.specs.declared.answers.AsmFault.{AsmFault}
-use Rattle.asm_front.specs.declared.ending.NotedObject.{NotedObject}
+use Rattle.source_ends.specs.declared.ending.NotedObject.{NotedObject}
 
 -- THE PROGRAM'S OWN NUMBERS
 
--- where there is a layout, the numbers of its object fit as far as the program's own do
-abbrev pub LayoutFits : SymbolMap → Result LaidSections LayoutFault → Type 0
-LayoutFits symbols (Ok laid) = NumbersFit symbols laid
-LayoutFits symbols (Err fault) = Unit {0}
-
--- where there is a frame table, so do those of the layout with it
-abbrev pub TablesFit : Result Tables FragCause → Type 0
-TablesFit (Ok tables) = LayoutFits tables.symbols (layout_of tables.symbols tables.sections)
-TablesFit (Err cause) = Unit {0}
-
--- where the list came to its end and there is an object, so do those of what was placed
+-- where the list came to its end and there is an object, the numbers of what was placed fit
 abbrev pub AnswerFits : Flags → Result (Unit {0}) (ExpandFault FaultAt) → FollowedSource → Result Assembled AsmFault → Type 0
-AnswerFits flags (Ok u) f (Ok made) = TablesFit (framed (with_made flags.scfi f.placed))
+AnswerFits flags (Ok u) f (Ok made) = TablesFit (tabled (with_made flags.scfi f.placed))
 AnswerFits flags (Ok u) f (Err fault) = Unit {0}
 AnswerFits flags (Err stop) f result = Unit {0}
-
--- the object or the fault at the end, with the frame tables that are worked out of these functions, of which so many are counted, by what these come to; the
--- numbers of an object fit
-pub record EndsWithFrames (fatal : Bool) (count : ℕ) (sections : List LooseSection) (table : Table) (functions : List (Recorded CodeItem))
-    (notes : List Noted) (answer : Result NotedObject FaultAt) : Type 0 where
-  pub made : Synthesis
-  pub comes : ComeTo table.symbols sections functions made
-  pub answers : unless_fault (Some made) notes (finished fatal count sections table (procedures_by (Some made) no_procedures) notes) ≡ answer
-  pub fits : OnOk answer (TablesFit (with_frames (procedures_by (Some made) no_procedures) table.symbols sections))
-
--- the call answers so
-abbrev pub AnswersWithFrames : Bool → ℕ → List LooseSection → Table → List (Recorded CodeItem) → List Noted → Result NotedObject (Refusal FaultAt) → Type 0
-AnswersWithFrames fatal count sections table functions notes (Ok made) = EndsWithFrames fatal count sections table functions notes (Ok made)
-AnswersWithFrames fatal count sections table functions notes (Err (refusal.Fault at)) = EndsWithFrames fatal count sections table functions notes (Err at)
-AnswersWithFrames fatal count sections table functions notes (Err refusal.NoMemory) = Unit {0}
 
 -- the object of all that was placed and followed, or the fault at the end, by what synthesis comes to
 pub record EndsFollowed (asked : Asked) (f : FollowedSource) (answer : Result NotedObject FaultAt) : Type 0 where
   pub made : Synthesis
   pub comes : IsMadeAt (flags_asked asked made).scfi f
   pub answers : followed_end (flags_asked asked made) f ≡ answer
-  pub fits : OnOk answer (TablesFit (framed (with_made (flags_asked asked made).scfi f.placed)))
+  pub fits : OnOk answer (TablesFit (tabled (with_made (flags_asked asked made).scfi f.placed)))
 
 -- the call answers so
 abbrev pub AnswersFollowed : Asked → FollowedSource → Result NotedObject (Refusal FaultAt) → Type 0
@@ -82,7 +48,7 @@ AnswersFollowed asked f (Err refusal.NoMemory) = Unit {0}
 
 -- where a list comes to its end, so do those of what it places
 abbrev pub StepFits : Flags → Step FollowedSource FaultAt → Type 0
-StepFits flags (ended files f) = TablesFit (framed (with_made flags.scfi f.placed))
+StepFits flags (ended files f) = TablesFit (tabled (with_made flags.scfi f.placed))
 StepFits flags _ = Unit {0}
 
 -- where there is an object, so do those of what the text of a source comes to

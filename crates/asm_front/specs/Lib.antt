@@ -1,7 +1,6 @@
 -- The definitions that the contracts cite, in reading order.
 pub mod Knowing
-pub mod Synthesis
-pub mod Ending
+pub mod PlacerStates
 pub mod Sources
 pub mod Assembly
 pub mod Outcome

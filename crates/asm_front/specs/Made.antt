@@ -7,16 +7,17 @@ use Rattle.asm_values.specs.State.{nothing_placed}
 use Rattle.asm_place.specs.Sources.{place_all}
 use Rattle.asm_functions.specs.FollowedSource.{FollowedSource, follow_all}
 use Rattle.asm_relax.specs.Settling.{LaidSections, layout_of}
-use Rattle.eh_frame.specs.Pieces.{Tables}
+use Rattle.table_pieces.specs.Pieces.{Tables}
+use Rattle.line_table.specs.Placing as line_table
 use Rattle.elf_object.specs.Objects.{object_of}
 use Rattle.readback_laws.specs.Origins.{IsContinuedBy}
-use Rattle.asm_front.specs.Synthesis.{IsMadeAt}
-use Rattle.asm_front.specs.Ending.{Flags, framed, with_made}
+use Rattle.source_ends.specs.Synthesis.{IsMadeAt}
+use Rattle.source_ends.specs.Ending.{Flags, framed, with_made}
 use Rattle.asm_front.specs.Assembly.{main_file, nothing_yet, expansion_of, handed_by, handed_of}
 
 -- the list of statements of a source came to its end: all of them are placed and followed, their
--- functions come to what synthesis makes of them, the frame table comes to that, both are laid out,
--- and the object is that of the layout
+-- functions come to what synthesis makes of them, the frame table comes to that, the line table
+-- behind it, all is laid out, and the object is that of the layout
 pub record IsMadeOf (flags : Flags) (contents : Contents) (name source object : List ℕ) : Type 0 where
   pub whole : FollowedSource
   pub files : List (List ℕ)
@@ -26,8 +27,10 @@ pub record IsMadeOf (flags : Flags) (contents : Contents) (name source object : 
   pub places : place_all (handed_of flags contents name source) (nothing_placed flags.no_warn)
       ≡ Ok whole.placed
   pub comes : IsMadeAt flags.scfi whole
+  pub framed_tables : Tables
+  pub frames : framed (with_made flags.scfi whole.placed) ≡ Ok framed_tables
   pub tables : Tables
-  pub frames : framed (with_made flags.scfi whole.placed) ≡ Ok tables
+  pub lines : line_table.placed whole.placed.lines framed_tables ≡ Ok tables
   pub continued : IsContinuedBy whole.placed tables
   pub laid : LaidSections
   pub settles : layout_of tables.symbols tables.sections ≡ Ok laid

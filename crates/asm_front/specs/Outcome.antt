@@ -8,8 +8,8 @@ use Rattle.asm_base.specs.Inputs.{Contents}
 use Rattle.asm_macro.specs.Starts.{IsFront, ReadsFront}
 use Rattle.asm_place.specs.Faults.{is_file_too_large}
 use Rattle.asm_place.specs.Sources.{fault_at}
-use Rattle.asm_front.specs.Synthesis.{Synthesis}
-use Rattle.asm_front.specs.Ending.{Flags}
+use Rattle.source_ends.specs.Synthesis.{Synthesis}
+use Rattle.source_ends.specs.Ending.{Flags}
 use Rattle.asm_front.specs.Sources.{MainSource, file, given, name_of, started_for, source_in}
 use Rattle.asm_front.specs.Assembly.{Assembly, assembled, faulty, missing, shown_name, included_by, assembly_of, file_assembly, main_assembly}
 use Rattle.asm_front.specs.declared.answers.Asked.{Asked}

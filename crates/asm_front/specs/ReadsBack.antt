@@ -4,7 +4,8 @@ use Rattle.asm_base.specs.Inputs.{Contents}
 use Rattle.asm_lines.specs.NextStatements.{TokenStatement}
 use Rattle.readback_laws.specs.Origins as origins
 use Rattle.readback_laws.specs.ReadsBack as statements
-use Rattle.asm_front.specs.Ending.{Flags, worked_out}
+use Rattle.loc_laws.specs.Locs.{LocsRead}
+use Rattle.source_ends.specs.Ending.{Flags, worked_out}
 use Rattle.asm_front.specs.Sources.{MainSource, name_of, source_in}
 use Rattle.asm_front.specs.Assembly.{handed_of}
 use Rattle.asm_front.specs.declared.answers.Assembled.{Assembled}
@@ -15,9 +16,10 @@ abbrev pub Origin : Flags → List TokenStatement → List ℕ → Type 0
 Origin flags handed object = origins.Origin flags.no_warn (worked_out flags.scfi) handed object
 
 -- each instruction that is handed out reads back in the object, where its section has bytes in the file, and so does the frame table of all procedures, or
--- of the functions that stand in place of these
-abbrev pub ReadsBack : Flags → List TokenStatement → List ℕ → Type 0
-ReadsBack flags handed object = statements.ReadsBack flags.no_warn (worked_out flags.scfi) handed object
+-- of the functions that stand in place of these; behind a `.loc` of its section the line table gives the row of the last one
+pub record ReadsBack (flags : Flags) (handed : List TokenStatement) (object : List ℕ) : Type 0 where
+  pub statements_read : statements.ReadsBack flags.no_warn (worked_out flags.scfi) handed object
+  pub locs_read : LocsRead flags.no_warn handed object statements_read.made.tables.symbols statements_read.made.laid statements_read.made.whole.lines
 
 -- ANSWERS
 

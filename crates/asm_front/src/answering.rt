@@ -10,13 +10,13 @@ ghost use Rattle.asm_front.specs.Assembly.{macro_fault, main_file, shown_name, s
 ghost use Rattle.asm_front.specs.Fitting.{AnswersFollowed};
 
 use crate::answers::{Asked, AsmFault, Assembled};
-use crate::ending::{NotedObject, finished, synthesized_object};
 use crate::placers::{SourcePlacer, StatementRefusal};
 use asm_base::{Fault, Files, NoMemory, Notes, Pos, Refusal, StatementFault};
 use asm_lines::LineCause;
 use asm_macro::ExpandFault;
 use asm_place::FaultAt;
 use macro_words::MacroCause;
+use source_ends::{NotedObject, finished, synthesized_object};
 use std::alloc::{AllocError, Global};
 
 /// The number of the source, which is the first file.

@@ -2,6 +2,7 @@
 
 use asm_base::{Fault, Files, Notes, Pos, Text};
 use elf_object::Object;
+use source_ends::Counts;
 
 /// Where the main source comes from.
 #[derive(Drop)]
@@ -33,21 +34,6 @@ pub(crate) struct Asked {
     pub(crate) scfi: bool,
     pub(crate) no_warn: bool,
     pub(crate) fatal_warnings: bool,
-}
-
-/// What is counted of a source with an object.
-#[derive(Clone, Copy, PartialEq, Eq, Debug)]
-pub struct Counts {
-    /// The functions that were followed; none where frame tables are not worked out of them.
-    pub functions: u64,
-    /// The size of the first section, which is `.text`, in bytes.
-    pub text_bytes: u64,
-    /// The jumps that take more than two bytes.
-    pub near_jumps: u64,
-    /// The rounds of the layout: one more than those that raised levels.
-    pub rounds: u64,
-    /// The entries of the frame table for procedures or functions.
-    pub frames: u64,
 }
 
 /// An object, with the notes of its source, the names of its files, and what is counted of it.

@@ -7,7 +7,7 @@ ghost use Rattle.asm_front.specs.Assembly as spec;
 ghost use Rattle.asm_front.specs.Assembly.{main_file, shown_files, too_large};
 ghost use Rattle.asm_front.specs.Outcome.{flags_asked, flags_of, CountsMisses, HasAssemblyCause, KeepsCount, NamesFiles, ReadsFiles, StartsFiles, StopsAtEnd, TakesFiles, TakesSource, TakesText};
 ghost use Rattle.asm_front.specs.Sources.{file, given, main_of, name_of};
-ghost use Rattle.asm_front.specs.Synthesis.{Synthesis};
+ghost use Rattle.source_ends.specs.Synthesis.{Synthesis};
 
 use crate::answering::{answer, fault_on_line, faulty};
 use crate::answers::{Asked, AsmFault, Assembled, Main, Options};
@@ -15,6 +15,7 @@ use crate::laws::{told_files_are_known, written_is_readable, written_reads_back}
 use crate::placers::SourcePlacer;
 use asm_base::{Files, Inputs, MOST_BYTES, NoMemory, StatementFault, Text, TextFault, read_text};
 use asm_macro::expand_source;
+use source_ends::the_end_is_no_reading;
 use std::alloc::Global;
 
 /// The source as the one file that was started.
@@ -60,6 +61,7 @@ fn assemble_text<I: Inputs>(
     ensures history { ReadsText result (I.history ins.old) (I.history ins.new) }
     ensures whole { IsAtEnd (I.rest ins.old) → OnOk result (IsAtEnd (I.rest ins.new)) }
 {
+    the_end_is_no_reading();
     let name = asked.file.as_str();
     let mut started = match started_source(alloc, name) {
         Ok(started) => started,

@@ -1,14 +1,10 @@
 //! What holds of every source.
 
-ghost use Rattle.std.specs.Prelude.{◌≡◌, ℕ, List, Some, Err, false};
+ghost use Rattle.std.specs.Prelude.{◌≡◌, ℕ, List, Some};
 ghost use Rattle.asm_base.specs.Inputs.{Contents};
-ghost use Rattle.asm_functions.specs.FollowedSource.{FollowedSource};
 ghost use Rattle.asm_macro.specs.Placing.{untold};
-ghost use Rattle.asm_place.specs.Faults.{is_file_too_large};
-ghost use Rattle.asm_place.specs.declared.place_faults.FaultAt.{FaultAt};
-ghost use Rattle.asm_front.specs.Synthesis.{IsSynthesis, Synthesis};
-ghost use Rattle.asm_front.specs.Ending.{Flags, followed_end};
-ghost use Rattle.asm_front.specs.declared.ending.NotedObject.{NotedObject};
+ghost use Rattle.source_ends.specs.Ending.{Flags};
+ghost use Rattle.source_ends.specs.declared.ending.NotedObject.{NotedObject};
 ghost use Rattle.asm_front.specs.Assembly.{assembled, assembly_of, expansion_of, handed_of, SourceIsMade};
 ghost use Rattle.asm_front.specs.Fitting.{ObjectIsReadable, StepFits};
 ghost use Rattle.asm_front.specs.Made.{IsMadeOf};
@@ -19,16 +15,10 @@ use asm_functions::{following_is_placing, functions_stand_in_order};
 use asm_macro::handed_statements_are_placed;
 use asm_place::sources_are_small;
 use asm_relax::layouts_keep_sections;
-use eh_frame::tables_add_little;
+use loc_laws::locs_read_back;
 use object_laws::{objects_fit, source_sections_found};
 use readback_laws::{statements_read_back, tables_continue};
-use synthesis_laws::{answers_are_one, synthesis_sees, tables_are_of_items, tables_can_be_written};
-
-/// Only the reading of files calls one too large: the end of a source does not.
-pub fn the_end_is_no_reading()
-    ensures { (flags : Flags) (f : FollowedSource) (fault : FaultAt)
-        → followed_end flags f ≡ Err fault → is_file_too_large fault.fault ≡ false }
-{}
+use source_ends::{ending_frames_are_ready, objects_are_finished};
 
 /// Where contents are told, no file that a source starts is untold.
 pub fn told_files_are_known()
@@ -36,17 +26,8 @@ pub fn told_files_are_known()
         → expansion_of flags (Some contents) name source ≡ untold → ⊥ }
 {}
 
-/// What the functions of a source come to is one thing: of all that was placed and followed there is one synthesis.
-pub fn synthesis_is_one()
-    ensures { (f : FollowedSource) (one other : Synthesis) → IsSynthesis f one → IsSynthesis f other
-        → one ≡ other }
-{
-    answers_are_one();
-    synthesis_sees();
-}
-
 /// The statements of a source that has an object are all placed and followed, and the object is that of the layout of what they
-/// place with its frame table, in which all that was placed stands as it was.
+/// place with its frame table and its line table, in which all that was placed stands as it was.
 pub fn objects_are_made()
     ensures { (flags : Flags) (contents : Contents) (name source : List ℕ) (made : NotedObject)
         (files : List (List ℕ)) → assembly_of flags contents name source ≡ assembled made files
@@ -56,8 +37,8 @@ pub fn objects_are_made()
     handed_statements_are_placed::<SourcePlacer>();
     following_is_placing();
     functions_stand_in_order();
-    tables_can_be_written();
-    tables_are_of_items();
+    objects_are_finished();
+    ending_frames_are_ready();
     tables_continue();
 }
 
@@ -66,7 +47,8 @@ pub fn objects_are_made()
 /// instruction. A direct jump, short or near, reads as the jump to its target: a label stands as far from the place behind the
 /// jump as the jump's bytes say. The frame table of the procedures stands in the object: at each place of a procedure its
 /// entry gives, by its bytes, the row that the procedure's directives mean there. Where frame tables are worked out of
-/// functions, these stand in place of procedures, with the instructions of their tables.
+/// functions, these stand in place of procedures, with the instructions of their tables. The line table gives by its bytes, for each
+/// instruction behind a `.loc` of its section, the row of the last such `.loc`.
 pub fn written_reads_back()
     ensures { (flags : Flags) (contents : Contents) (name source : List ℕ) (made : NotedObject)
         (files : List (List ℕ)) → assembly_of flags contents name source ≡ assembled made files
@@ -76,9 +58,10 @@ pub fn written_reads_back()
     handed_statements_are_placed::<SourcePlacer>();
     following_is_placing();
     functions_stand_in_order();
-    tables_can_be_written();
-    tables_are_of_items();
+    objects_are_finished();
+    ending_frames_are_ready();
     statements_read_back();
+    locs_read_back();
 }
 
 /// Where the program's own numbers fit, all numbers of the object fit their fields in the file, it has fewer headers than the
@@ -95,7 +78,8 @@ pub fn written_is_readable()
     handed_statements_are_placed::<SourcePlacer>();
     following_is_placing();
     sources_are_small();
-    tables_add_little();
+    eh_frame::tables_add_little();
+    line_table::tables_add_little();
     layouts_keep_sections();
     objects_fit();
     source_sections_found();

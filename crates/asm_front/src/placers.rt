@@ -12,6 +12,7 @@ use asm_place::{BoxedFault, FaultAt};
 use asm_values::Placed;
 use code_functions::Functions;
 use macro_words::{KnowingPlacer, MacroCause};
+use source_ends::functions_are_ready;
 use std::alloc::{AllocError, Global};
 use std::marker::Model;
 
@@ -55,7 +56,7 @@ pub(crate) struct SourcePlacer {
 
 impl Model for SourcePlacer {
     ghost use Rattle.asm_functions.specs.FollowedSource.{FollowedSource};
-    ghost use Rattle.asm_front.specs.Synthesis.{IsOrdered};
+    ghost use Rattle.asm_front.specs.PlacerStates.{IsOrdered};
 
     ghost Value = { FollowedSource };
 
@@ -80,7 +81,7 @@ impl SourcePlacer {
     ghost use Rattle.std.specs.Prelude.{◌≡◌, All, IfOk};
     ghost use Rattle.asm_functions.specs.FollowedSource.{nothing_followed, notes_of};
     ghost use Rattle.code_functions.specs.Seen.{all_seen};
-    ghost use Rattle.asm_front.specs.Synthesis.{IsReady};
+    ghost use Rattle.source_ends.specs.Synthesis.{IsReady};
 
     /// Nothing is placed yet.
     pub(crate) fn new(alloc: Global, no_warn: bool, asked: bool) -> Result<SourcePlacer, NoMemory>
@@ -92,16 +93,18 @@ impl SourcePlacer {
         }
     }
 
-    /// The sections, the symbols, the procedures and all notes; and the functions.
+    /// The sections, the symbols, the procedures, the lines and all notes; and the functions.
     pub(crate) fn into_parts(self) -> Result<(Placed, Functions), NoMemory>
         ensures sections { IfOk result (λ parts. parts.0.sections ≡ self.placed.sections) }
         ensures table { IfOk result (λ parts. parts.0.table ≡ self.placed.table) }
         ensures procedures { IfOk result (λ parts. parts.0.procedures ≡ self.placed.procedures) }
+        ensures lines { IfOk result (λ parts. parts.0.lines ≡ self.placed.lines) }
         ensures notes { IfOk result (λ parts. parts.0.notes ≡ notes_of self) }
         ensures functions { IfOk result (λ parts. all_seen parts.1 ≡ self.functions) }
         ensures ready { IfOk result (λ parts. All (IsReady parts.0.sections) parts.1) }
     {
         functions_stand_in_order();
+        functions_are_ready();
         let FollowingPlacer {
             statements,
             functions,
@@ -114,6 +117,7 @@ impl SourcePlacer {
             sections,
             table,
             procedures,
+            lines,
             notes,
         } = statements.assembler.into_parts();
         let notes = with_remark(alloc, no_warn, ignored, notes)?;
@@ -121,6 +125,7 @@ impl SourcePlacer {
             sections,
             table,
             procedures,
+            lines,
             notes,
         };
         Ok((parts, functions.functions))

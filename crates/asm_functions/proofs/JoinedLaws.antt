@@ -158,6 +158,7 @@ module _ (statements : List TokenStatement) (first : FollowedSource) where
     directive_sound directive.Ident tokens moves puts =
         moved_sound statements first pos there after grows functions sound (section_number (codes ".comment") there.sections) moves puts
     directive_sound directive.File tokens moves puts = stays moves
+    directive_sound directive.Loc tokens moves puts = stays moves
     directive_sound (directive.Error said) tokens moves puts = stays moves
     directive_sound directive.Warning tokens moves puts = stays moves
     directive_sound (directive.Syntax syntax) tokens moves puts = stays moves

@@ -111,6 +111,7 @@ module _ (pos : Pos) (there after : Placed) where
   directive_at directive.Lcomm tokens number same moved = data_at false bss number same moved
   directive_at directive.Ident tokens number same moved = moved_at (section_number (codes ".comment") there.sections) number same moved
   directive_at directive.File tokens number same moved = absurd (cc)
+  directive_at directive.Loc tokens number same moved = absurd (cc)
   directive_at (directive.Error said) tokens number same moved = absurd (cc)
   directive_at directive.Warning tokens number same moved = absurd (cc)
   directive_at (directive.Syntax syntax) tokens number same moved = absurd (cc)

@@ -104,6 +104,7 @@ module _ (pos : Pos) (there after : Placed) (grows : Grows there.sections after.
   directive_stand directive.Lcomm tokens = data_stand false bss
   directive_stand directive.Ident tokens = moved_stand (section_number (codes ".comment") there.sections)
   directive_stand directive.File tokens = still
+  directive_stand directive.Loc tokens = still
   directive_stand (directive.Error said) tokens = still
   directive_stand directive.Warning tokens = still
   directive_stand (directive.Syntax syntax) tokens = still

@@ -170,6 +170,7 @@ follow_directive directive.Comm pos tokens there after functions = with_data fal
 follow_directive directive.Lcomm pos tokens there after functions = with_data false pos bss there after functions
 follow_directive directive.Ident pos tokens there after functions = with_moved pos (section_number (codes ".comment") there.sections) there after functions
 follow_directive directive.File pos tokens there after functions = functions
+follow_directive directive.Loc pos tokens there after functions = functions
 follow_directive (directive.Error said) pos tokens there after functions = functions
 follow_directive directive.Warning pos tokens there after functions = functions
 follow_directive (directive.Syntax syntax) pos tokens there after functions = functions

@@ -294,6 +294,7 @@ impl FollowingPlacer {
             Directive::Say(_) => self.follow_other(pos, tokens),
             Directive::Assign { .. } => self.follow_other(pos, tokens),
             Directive::File => self.follow_other(pos, tokens),
+            Directive::Loc => self.follow_other(pos, tokens),
             Directive::Error { .. } => self.follow_other(pos, tokens),
             Directive::Warning => self.follow_other(pos, tokens),
             Directive::Syntax(_) => self.follow_other(pos, tokens),

@@ -45,6 +45,10 @@ pub enum PlaceCause {
     /// A procedure begins in another one, has a directive in another section, or remembers and restores rows that do not
     /// pair.
     UnbalancedCfiState,
+    /// A row of the line table is of a file to which no number was given.
+    UnassignedFileNumber,
+    /// A number is given to another file than the one that has it.
+    FileNumberInUse,
 }
 
 /// Why a step refuses a statement.

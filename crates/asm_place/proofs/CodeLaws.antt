@@ -37,7 +37,7 @@ use Rattle.section_laws.specs.Within.{IsWithin, AreWithin, PutsStayWithin}
 use Rattle.asm_place.specs.Instructions.{behind_labels, instruction_written, run_end, with_more, IsContinued, Grows}
 use Rattle.asm_place.specs.CodePlaces.{text_read, insn_written, is_instruction, BeginsAsInstruction, insn_in, labelled, known_in, code_fields, with_held, zeros_in, blanked, AreApart, field_in, with_code, IsCodePut, IsInsnPut, CodeStandsAt, InsnStands, jump_in}
 use Rattle.asm_place.proofs.GrowthLemmas.{get_set, All-there, zeros_long, run_within}
-use Rattle.asm_place.proofs.Walks.{FramesKeep}
+use Rattle.asm_place.proofs.Walks.{TablesKeep}
 use Rattle.asm_place.proofs.PlacingLaws.{all_grow, all_within}
 use Rattle.asm_place.proofs.StatementSplits.{err-ok, same_Ok, both_ok, all_split}
 use Rattle.asm_place.proofs.InstructionLaws.{wide_ok, same_labels, label_keeps, located_ok, first_placed, run_items}
@@ -85,6 +85,7 @@ labels_keep_by true pos first rest before labels again is =
       stack = more.stack ∙ keeps.stack;
       syntax = more.syntax ∙ keeps.syntax;
       procedures = more.procedures ∙ keeps.procedures;
+      lines = more.lines ∙ keeps.lines;
       no_warn = more.no_warn ∙ keeps.no_warn;
       notes = more.notes ∙ keeps.notes;
     })
@@ -406,11 +407,11 @@ put_stands before next whole number pos bytes fields put within grows =
     (grows.kept number new there))
 
 -- an instruction with operands stands in the whole
-pub insn_there : FramesKeep → PutsStayWithin → EncodingsApart
+pub insn_there : TablesKeep → PutsStayWithin → EncodingsApart
     → (front : List TokenStatement) (s : TokenStatement) (later : List TokenStatement) (before placed whole : Placed) (text : InsnText)
     → AreWithin before.sections → place_all front before ≡ Ok placed → place_all (front ++ s ∷ later) before ≡ Ok whole → insn_in placed.syntax s ≡ Some text
     → jump_in text ≡ None → InsnStands whole.sections (pos_at s.file s.line) s.tokens text placed
-insn_there frames law places front s later before placed whole text within is_front is_whole written no_jump =
+insn_there tables law places front s later before placed whole text within is_front is_whole written no_jump =
     first_placed s later placed whole (sym (all_split front (s ∷ later) before ∙ ap (λ r. r >>= place_all (s ∷ later)) is_front) ∙ is_whole)
     (λ next is_next is_later.
     let insn = statement_put places s placed next text written no_jump is_next in
@@ -419,5 +420,5 @@ insn_there frames law places front s later before placed whole text within is_fr
       stands =
           put_stands placed.sections next.sections whole.sections placed.current (pos_at s.file s.line) insn.coded.made.bytes
           (code_fields text insn.coded.forms insn.coded.made)
-          insn.put (all_within frames law front before placed is_front within) (all_grow frames later next whole is_later);
+          insn.put (all_within tables law front before placed is_front within) (all_grow tables later next whole is_later);
     })

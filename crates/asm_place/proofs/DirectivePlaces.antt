@@ -53,8 +53,9 @@ use Rattle.asm_values.specs.Data.{put_data, place_data, place_strings, put_space
 use Rattle.asm_items.specs.Alignments.{is_code, place_align}
 use Rattle.asm_items.specs.Orgs.{known_origin, origin_by, place_org}
 use Rattle.asm_items.specs.Leb128Numbers.{put_number_by, put_numbers, put_leb128, some_expressions, place_leb128}
-use Rattle.asm_place.specs.Placing.{initial_number, place_by, place_found, place_directive}
-use Rattle.asm_place.proofs.Walks.{FramesKeep, Fine, made, refused, step, after, either}
+use Rattle.asm_place.specs.Placing.{initial_number, names_source, place_any_file, place_by, place_found, place_directive}
+use Rattle.asm_line_tables.specs.Placing.{place_loc, place_numbered_file}
+use Rattle.asm_place.proofs.Walks.{TablesKeep, Fine, made, refused, step, after, either}
 use Rattle.asm_uses.specs.Tables.{changed_by, file_named, naming_of, allowed}
 use Rattle.std.proofs.Common.{◌<◌, arith}
 use Rattle.asm_uses.specs.Tables.{with_name, with_tree}
@@ -68,7 +69,7 @@ use Rattle.asm_place.proofs.OwnFields.{entered_fields}
 use Rattle.asm_place.proofs.SectionSteps.{entered_adds}
 use Rattle.asm_place.proofs.SymbolTables.{Allows, named_both, allows_on, with_name_stand, tree_stand, change_stand, named_change_stand, assigned_stand, kind_stand, say_all_stand, sized_stand, allowed_stand, define_space_stand, end_stand, file_stand}
 use Rattle.asm_place.proofs.KnownWalks.{AreAsked, given_walk, known_walk}
-use Rattle.asm_place.proofs.FramePlaces.{frame_walk}
+use Rattle.asm_place.proofs.FramePlaces.{frame_walk, line_walk}
 use Rattle.asm_place.proofs.PlaceSteps.{count, Gains, Stays, Closes, Walks, grown_twice, stays_on, closes_on, closed, walked, unmoved, items_grow, sections_stay, table_stays, table_gains, table_closes, current_stays, notes_close, notes_stay, syntax_stays, names_gain, spot_stands, both_fine, table_walk, table_close, bytes_walk, field_walk, push_walk, growing_walk, section_walk, pushed_walk, popped_walk}
 
 -- DATA AND SPACE
@@ -394,7 +395,12 @@ initial_few initially.Text = omega arith
 initial_few initially.Data = omega arith
 initial_few initially.Bss = omega arith
 
-module _ (frames : FramesKeep) (leads : LeadsAreFound) where
+module _ (tables : TablesKeep) (leads : LeadsAreFound) where
+  any_file_walk : (pos : Pos) (tokens : List SpelledToken) (placed : Placed) → PlacesStand placed → Walks placed (place_any_file pos tokens placed)
+  unfolding place_any_file
+  any_file_walk pos tokens placed stands =
+      either (names_source tokens) (file_walk tokens placed stands) (line_walk pos placed (place_numbered_file pos tokens placed) (tables.files pos tokens placed) stands)
+
   by_walk : (found : Directive) (pos : Pos) (tokens : List SpelledToken) (placed : Placed) → PlacesStand placed → Walks placed (place_by found pos tokens placed)
   unfolding place_by
   by_walk (directive.Data size) pos tokens placed stands = data_walk pos size tokens placed stands
@@ -420,12 +426,13 @@ module _ (frames : FramesKeep) (leads : LeadsAreFound) where
   by_walk directive.Comm pos tokens placed stands = comm_walk pos tokens placed stands
   by_walk directive.Lcomm pos tokens placed stands = lcomm_walk pos tokens placed stands
   by_walk directive.Ident pos tokens placed stands = ident_walk pos tokens placed stands
-  by_walk directive.File pos tokens placed stands = file_walk tokens placed stands
+  by_walk directive.File pos tokens placed stands = any_file_walk pos tokens placed stands
+  by_walk directive.Loc pos tokens placed stands = line_walk pos placed (place_loc pos tokens placed) (tables.rows pos tokens placed) stands
   by_walk (directive.Error said) pos tokens placed stands = error_walk said tokens placed
   by_walk directive.Warning pos tokens placed stands = warning_walk pos tokens placed stands
   by_walk (directive.Syntax syntax) pos tokens placed stands = syntax_walk syntax tokens placed stands
   by_walk directive.Code64 pos tokens placed stands = bare_walk tokens placed (Ok placed) (made _ (unmoved placed stands))
-  by_walk (directive.Frame frame) pos tokens placed stands = frame_walk frames frame pos tokens placed stands
+  by_walk (directive.Frame frame) pos tokens placed stands = frame_walk tables frame pos tokens placed stands
 
   found_walk : (found : Option Directive) (pos : Pos) (tokens : List SpelledToken) (placed : Placed) → PlacesStand placed → Walks placed (place_found found pos tokens placed)
   found_walk None pos tokens placed stands = refused _

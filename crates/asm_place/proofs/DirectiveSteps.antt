@@ -2,6 +2,7 @@
 use Rattle.std.proofs.Common.{ℕ, nat_le, Bool, true, false, List, [], ◌∷◌, Option, None, Some, Result, Ok, sym, subst}
 use Rattle.std.specs.Prelude.{◌^◌, codes, unwrap_or}
 use Rattle.std.specs.List.{list_any, count_by}
+use Rattle.std.specs.Result.{IfOk}
 use Rattle.asm_operands.specs.declared.place_faults.PlaceCause.{PlaceCause}
 use Rattle.asm_base.specs.declared.faults.Note.TheVariants.{Written}
 use Rattle.asm_base.specs.declared.positions.Pos.{Pos}
@@ -46,16 +47,18 @@ use Rattle.asm_place.specs.Remarks.{place_err, place_error, place_warning}
 use Rattle.asm_place.specs.SyntaxWords.{with_syntax, says_names, place_syntax}
 use Rattle.asm_words.specs.declared.directives.FrameDirective.{FrameDirective}
 use Rattle.asm_frames.specs.Placing.{place_frame}
+use Rattle.asm_line_tables.specs.Keeping.{OnlyLines}
+use Rattle.asm_line_tables.specs.Placing.{place_loc, place_numbered_file}
 use Rattle.asm_words.specs.declared.directives.Syntax.{Syntax}
 use Rattle.asm_words.specs.declared.directives.Syntax.TheVariants.{Att, Intel}
 use Rattle.asm_values.specs.Data.{put_data, place_data, place_strings, put_space_by, with_filled, with_named, place_zero, place_skip, place_fill}
 use Rattle.asm_items.specs.Alignments.{is_code, place_align}
 use Rattle.asm_items.specs.Orgs.{known_origin, origin_by, place_org}
 use Rattle.asm_items.specs.Leb128Numbers.{put_number_by, put_numbers, put_leb128, some_expressions, place_leb128}
-use Rattle.asm_place.specs.Placing.{initial_number, place_by, place_found, place_directive}
+use Rattle.asm_place.specs.Placing.{initial_number, names_source, place_any_file, place_by, place_found, place_directive}
 use Rattle.asm_uses.specs.Tables.{changed_by, change_named, file_named, naming_of, allowed}
-use Rattle.asm_place.proofs.Walks.{FramesKeep, Fine, made, refused, known, weaker, step, after, either}
-use Rattle.asm_place.proofs.ProcedureSteps.{Led, Steps, leads_by, leads_lines, still, on, grown}
+use Rattle.asm_place.proofs.Walks.{TablesKeep, Fine, made, refused, known, weaker, step, after, either}
+use Rattle.asm_place.proofs.ProcedureSteps.{Led, Steps, leads_by, leads_lines, leads_rows, still, on, grown}
 use Rattle.asm_place.proofs.SectionSteps.{bytes_steps, field_steps, push_steps, growing_steps, entered_adds, section_steps, pushed_steps, popped_steps}
 
 -- data and space
@@ -272,7 +275,7 @@ ident_steps : (pos : Pos) (tokens : List SpelledToken) (placed : Placed) → Ste
 unfolding place_ident
 ident_steps pos tokens placed =
     after (one_string tokens) (λ text. step (entered_adds placed.sections (codes ".comment") comment_header)
-    (λ pair adds. from placed (record placed { sections = pair.0 }) (leads_by placed.sections pair.0 placed.procedures adds)
+    (λ pair adds. from placed (record placed { sections = pair.0 }) (leads_by placed.sections pair.0 placed.procedures placed.lines adds)
     (bytes_steps pos pair.1 (comment_bytes (items_in pair.0 pair.1) text) (record placed { sections = pair.0 }))))
 
 file_steps : (tokens : List SpelledToken) (placed : Placed) → Steps placed (place_file tokens placed)
@@ -311,11 +314,21 @@ bare_steps : (tokens : List SpelledToken) (placed : Placed) (answer : Result Pla
 bare_steps [] placed answer steps = steps
 bare_steps (token ∷ rest) placed answer steps = refused _
 
-module _ (frames : FramesKeep) where
+-- a directive of the line table
+line_steps : (pos : Pos) (placed : Placed) (answer : Result Placed PlaceCause) → IfOk answer (OnlyLines pos placed) → Steps placed answer
+line_steps pos placed answer keeps =
+    weaker (known answer keeps) (λ after only. subst (Led placed) (sym only.is) (leads_rows placed only.directives only.lines only.taken only.fit))
+
+module _ (tables : TablesKeep) where
   frame_steps : (frame : FrameDirective) (pos : Pos) (tokens : List SpelledToken) (placed : Placed) → Steps placed (place_frame frame pos tokens placed)
   frame_steps frame pos tokens placed =
-      weaker (known (place_frame frame pos tokens placed) (frames frame pos tokens placed))
+      weaker (known (place_frame frame pos tokens placed) (tables.frames frame pos tokens placed))
       (λ after only. subst (Led placed) (sym only.is) (leads_lines placed only.lines only.procedures only.taken))
+
+  any_file_steps : (pos : Pos) (tokens : List SpelledToken) (placed : Placed) → Steps placed (place_any_file pos tokens placed)
+  unfolding place_any_file
+  any_file_steps pos tokens placed =
+      either (names_source tokens) (file_steps tokens placed) (line_steps pos placed (place_numbered_file pos tokens placed) (tables.files pos tokens placed))
 
   by_steps : (found : Directive) (pos : Pos) (tokens : List SpelledToken) (placed : Placed) → Steps placed (place_by found pos tokens placed)
   unfolding place_by
@@ -339,7 +352,8 @@ module _ (frames : FramesKeep) where
   by_steps directive.Comm pos tokens placed = comm_steps pos tokens placed
   by_steps directive.Lcomm pos tokens placed = lcomm_steps pos tokens placed
   by_steps directive.Ident pos tokens placed = ident_steps pos tokens placed
-  by_steps directive.File pos tokens placed = file_steps tokens placed
+  by_steps directive.File pos tokens placed = any_file_steps pos tokens placed
+  by_steps directive.Loc pos tokens placed = line_steps pos placed (place_loc pos tokens placed) (tables.rows pos tokens placed)
   by_steps (directive.Error said) pos tokens placed = error_steps said tokens placed
   by_steps directive.Warning pos tokens placed = warning_steps pos tokens placed
   by_steps (directive.Syntax syntax) pos tokens placed = syntax_steps syntax tokens placed

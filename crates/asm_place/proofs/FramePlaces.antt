@@ -1,5 +1,6 @@
--- Frame directives keep it so that the places of procedures stand in their sections.
-use Rattle.std.proofs.Common.{◌≡◌, ℕ, List, All, map, Ok, sym, subst}
+-- Directives of frame tables and of line tables keep it so that all places stand in their sections.
+use Rattle.std.proofs.Common.{◌≡◌, ℕ, List, All, map, Result, Ok, sym, subst}
+use Rattle.std.specs.Result.{IfOk}
 use Rattle.std.proofs.lemmas.List.Elements.{All-weaker}
 use Rattle.std.proofs.lemmas.Result.{IfOk-at_ok}
 use Rattle.asm_base.specs.declared.positions.Pos.{Pos}
@@ -15,8 +16,11 @@ use Rattle.cfi_directives.specs.Procedures.{Procedures, frames_of}
 use Rattle.cfi_directives.specs.Taking.{taken_from}
 use Rattle.asm_frames.specs.Keeping.{line_here, OnlyNames}
 use Rattle.asm_frames.specs.Placing.{with_procedures, place_frame}
+use Rattle.asm_line_tables.specs.Keeping.{OnlyLines}
+use Rattle.asm_line_tables.specs.Placing.{with_lines}
+use Rattle.asm_operands.specs.declared.place_faults.PlaceCause.{PlaceCause}
 use Rattle.asm_place.specs.SymbolPlaces.{HasItems, ProcedureStands, PlacesStand}
-use Rattle.asm_place.proofs.Walks.{FramesKeep, known, weaker}
+use Rattle.asm_place.proofs.Walks.{TablesKeep, known, weaker}
 use Rattle.asm_place.proofs.TakenPlaces.{HasPlaces, HavePlaces, frames_have, have_frames, lines_have}
 use Rattle.asm_place.proofs.SymbolTables.{Allows, allowed_stand}
 use Rattle.asm_place.proofs.PlaceSteps.{count, Stays, Walks, names_gain, spot_stands}
@@ -73,8 +77,36 @@ only_stays pos placed after stands only =
     }
 
 -- a frame directive keeps all places standing
-pub frame_walk : FramesKeep → (directive : FrameDirective) (pos : Pos) (tokens : List SpelledToken) (placed : Placed) → PlacesStand placed
+pub frame_walk : TablesKeep → (directive : FrameDirective) (pos : Pos) (tokens : List SpelledToken) (placed : Placed) → PlacesStand placed
     → Walks placed (place_frame directive pos tokens placed)
-frame_walk frames directive pos tokens placed stands =
-    weaker (known (place_frame directive pos tokens placed) (frames directive pos tokens placed))
+frame_walk tables directive pos tokens placed stands =
+    weaker (known (place_frame directive pos tokens placed) (tables.frames directive pos tokens placed))
     (λ after only. subst (Stays placed) (sym only.is) (only_stays pos placed after stands only))
+
+-- what a directive of the line table changes stands
+lines_only_stay : (pos : Pos) (placed after : Placed) → PlacesStand placed → (only : OnlyLines pos placed after)
+    → Stays placed (with_lines (with_names pos only.trees placed) only.lines)
+lines_only_stay pos placed after stands only =
+    let named = with_names pos only.trees placed in
+    let names = names_gain pos only.trees placed stands in
+    let allows = IfOk-at_ok (Allows named.sections (count placed) named.table) only.names
+    (allowed_stand named.sections (naming_of only.trees placed.table) named.table).holds in
+    record {
+      grows = names.grows;
+      more = names.more;
+      stands = record {
+        current = stands.current;
+        previous = stands.previous;
+        stack = stands.stack;
+        first = stands.first;
+        symbols = names.stands.symbols;
+        procedures = stands.procedures;
+        fields = names.stands.fields;
+      };
+      fits = λ fit. allows.few (λ le. names.alike le fit);
+    }
+
+-- a directive of the line table keeps all places standing
+pub line_walk : (pos : Pos) (placed : Placed) (answer : Result Placed PlaceCause) → IfOk answer (OnlyLines pos placed) → PlacesStand placed → Walks placed answer
+line_walk pos placed answer keeps stands =
+    weaker (known answer keeps) (λ after only. subst (Stays placed) (sym only.is) (lines_only_stay pos placed after stands only))

@@ -35,7 +35,7 @@ use Rattle.asm_place.specs.Bodies.{AreLabels}
 use Rattle.section_laws.specs.Within.{IsWithin, AreWithin, PutsStayWithin}
 use Rattle.asm_place.specs.Instructions.{behind_labels, instruction_written, instruction_of, run_end, next_item, next_offset, with_more, IsContinued, Grows, IsPut, StandsAt}
 use Rattle.asm_place.proofs.GrowthLemmas.{get_set, All-there, run_keeps, run_within}
-use Rattle.asm_place.proofs.Walks.{FramesKeep}
+use Rattle.asm_place.proofs.Walks.{TablesKeep}
 use Rattle.asm_place.proofs.PlacingLaws.{all_grow, all_within}
 use Rattle.asm_place.proofs.StatementSplits.{err-ok, same_Ok, both_ok, all_split}
 
@@ -116,6 +116,7 @@ same_labels before placed table is = record {
   stack = ap (λ (p : Placed). p.stack) (sym is);
   syntax = ap (λ (p : Placed). p.syntax) (sym is);
   procedures = ap (λ (p : Placed). p.procedures) (sym is);
+  lines = ap (λ (p : Placed). p.lines) (sym is);
   no_warn = ap (λ (p : Placed). p.no_warn) (sym is);
   notes = ap (λ (p : Placed). p.notes) (sym is);
 }
@@ -257,11 +258,11 @@ put_stands before next whole number pos bytes put within grows =
     (stands pos put.section bytes (All-there IsWithin before number put.section put.there within) whole number (grows.kept number new there) put.takes_bytes)
 
 -- the bytes of an instruction stand in the whole
-pub instruction_there : FramesKeep → PutsStayWithin → BareCodesStand → (front : List TokenStatement) (s : TokenStatement) (later : List TokenStatement) (before placed whole : Placed) (coded : Coded)
+pub instruction_there : TablesKeep → PutsStayWithin → BareCodesStand → (front : List TokenStatement) (s : TokenStatement) (later : List TokenStatement) (before placed whole : Placed) (coded : Coded)
     → AreWithin before.sections → place_all front before ≡ Ok placed → place_all (front ++ s ∷ later) before ≡ Ok whole → instruction_of placed.syntax s ≡ Some coded
     → StandsAt whole.sections placed.current (next_item placed) (next_offset placed) coded.bytes
-instruction_there frames law stand front s later before placed whole coded within is_front is_whole written =
+instruction_there tables law stand front s later before placed whole coded within is_front is_whole written =
     first_placed s later placed whole (sym (all_split front (s ∷ later) before ∙ ap (λ r. r >>= place_all (s ∷ later)) is_front) ∙ is_whole)
     (λ next is_next is_later.
     put_stands placed.sections next.sections whole.sections placed.current (pos_at s.file s.line) coded.bytes
-    (statement_put stand s placed next coded written is_next) (all_within frames law front before placed is_front within) (all_grow frames later next whole is_later))
+    (statement_put stand s placed next coded written is_next) (all_within tables law front before placed is_front within) (all_grow tables later next whole is_later))

@@ -43,7 +43,7 @@ use Rattle.asm_place.specs.Instructions.{behind_labels, with_more, IsContinued, 
 use Rattle.asm_place.specs.CodePlaces.{insn_written, insn_in, known_in, jump_in}
 use Rattle.asm_place.specs.JumpPlaces.{jump_form, IsJumpPut, items_so_far, jump_field, JumpStandsAt, JumpStands, jump_written}
 use Rattle.asm_place.proofs.GrowthLemmas.{get_set, All-there}
-use Rattle.asm_place.proofs.Walks.{FramesKeep}
+use Rattle.asm_place.proofs.Walks.{TablesKeep}
 use Rattle.asm_place.proofs.PlacingLaws.{all_grow, all_within}
 use Rattle.asm_place.proofs.StatementSplits.{err-ok, same_Ok, both_ok, all_split}
 use Rattle.asm_place.proofs.InstructionLaws.{wide_ok, located_ok, first_placed}
@@ -189,17 +189,17 @@ put_stands before next whole pos tokens text condition put within grows =
     (grows.kept number new there))
 
 -- a jump stands in the whole
-pub jump_there : FramesKeep → PutsStayWithin → (front : List TokenStatement) (s : TokenStatement) (later : List TokenStatement) (before placed whole : Placed) (text : InsnText) (condition : Option Condition)
+pub jump_there : TablesKeep → PutsStayWithin → (front : List TokenStatement) (s : TokenStatement) (later : List TokenStatement) (before placed whole : Placed) (text : InsnText) (condition : Option Condition)
     → AreWithin before.sections → place_all front before ≡ Ok placed → place_all (front ++ s ∷ later) before ≡ Ok whole → insn_in placed.syntax s ≡ Some text
     → jump_in text ≡ Some condition → JumpStands whole.sections (pos_at s.file s.line) s.tokens text condition placed
-jump_there frames law front s later before placed whole text condition within is_front is_whole written jump =
+jump_there tables law front s later before placed whole text condition within is_front is_whole written jump =
     first_placed s later placed whole (sym (all_split front (s ∷ later) before ∙ ap (λ r. r >>= place_all (s ∷ later)) is_front) ∙ is_whole)
     (λ next is_next is_later.
     let put = statement_jumps s placed next text condition written jump is_next in
     record {
       jump = put.jump;
-      stands = put_stands placed next whole (pos_at s.file s.line) s.tokens text condition put (all_within frames law front before placed is_front within)
-          (all_grow frames later next whole is_later);
+      stands = put_stands placed next whole (pos_at s.file s.line) s.tokens text condition put (all_within tables law front before placed is_front within)
+          (all_grow tables later next whole is_later);
     })
 
 -- WHAT IT READS AS

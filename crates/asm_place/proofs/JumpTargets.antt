@@ -17,7 +17,7 @@ use Rattle.asm_place.specs.Instructions.{behind_labels}
 use Rattle.asm_place.specs.CodePlaces.{insn_written, insn_in, labelled}
 use Rattle.asm_place.specs.JumpPlaces.{IsJump}
 use Rattle.asm_place.specs.SymbolPlaces.{AreUpTo, PlacesStand}
-use Rattle.asm_place.proofs.Walks.{FramesKeep}
+use Rattle.asm_place.proofs.Walks.{TablesKeep}
 use Rattle.asm_place.proofs.InstructionLaws.{wide_ok, located_ok, first_placed}
 use Rattle.asm_place.proofs.CodeLaws.{labels_split, behind_is}
 use Rattle.asm_place.proofs.ForwardForms.{LeadsAreFound}
@@ -35,7 +35,7 @@ rest_is pos tokens text placed labels next written labels_are is =
     let behind = sym (ap (λ r. r >>= place_unlabelled pos (behind_labels tokens)) labels_are) ∙ whole in
     sym (behind_is pos tokens text placed labels labels_are written) ∙ behind
 
-module _ (frames : FramesKeep) (leads : LeadsAreFound) (s : TokenStatement) (later : List TokenStatement) (placed whole : Placed) (text : InsnText) (stands : PlacesStand placed)
+module _ (tables : TablesKeep) (leads : LeadsAreFound) (s : TokenStatement) (later : List TokenStatement) (placed whole : Placed) (text : InsnText) (stands : PlacesStand placed)
     (jump : IsJump (pos_at s.file s.line) s.tokens text placed) where
   abbrev trees : List Tree
   trees = in_text_order jump.labels.syntax text.immediate.tree text.displacement.tree
@@ -57,7 +57,7 @@ module _ (frames : FramesKeep) (leads : LeadsAreFound) (s : TokenStatement) (lat
       let rest = rest_is pos s.tokens text placed jump.labels next written jump.labels_are tokens in
       let naming = naming_of trees jump.labels.table in
       let first = IfOk-at_ok (Closes naming.before named) rest (trees_walk pos (shape_in text) naming text.immediate.tree text.displacement.tree named named_stands).holds in
-      let last = kept_by next whole (place_all later next) later_is (statements_walk frames leads later next first.stands) in
+      let last = kept_by next whole (place_all later next) later_is (statements_walk tables leads later next first.stands) in
       let more = first.more in
       let still = last.more in
       omega (arith, more, still)

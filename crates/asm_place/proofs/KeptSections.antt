@@ -2,6 +2,7 @@
 use Rattle.std.proofs.Common.{◌≡◌, ◌≢◌, ℕ, zero, suc, Bool, true, false, cond, List, [], ◌∷◌, ◌++◌, length, Option, None, Some, Result, Ok, Err, refl, sym, ap, subst, arith, slice_get}
 use Rattle.std.specs.Prelude.{◌&&◌, ◌^◌, nat_lt, not, drop, codes}
 use Rattle.std.specs.List.{list_any}
+use Rattle.std.specs.Result.{IfOk}
 use Rattle.std.proofs.lemmas.Option.{none-some}
 use Rattle.std.proofs.lemmas.Result.{IfOk-at_ok}
 use Rattle.asm_operands.specs.declared.place_faults.PlaceCause.{PlaceCause}
@@ -49,17 +50,19 @@ use Rattle.asm_declarations.specs.Idents.{items_in, comment_bytes, comment_heade
 use Rattle.asm_declarations.specs.SectionChanges.{bare, with_current, option_trees, numbered, entered_as, enter_words, place_section, entered_now, place_pushed, back_to, popped, entry_size_in, header_by}
 use Rattle.asm_declarations.specs.SymbolWords.{place_said, place_type}
 use Rattle.asm_frames.specs.Placing.{place_frame}
+use Rattle.asm_line_tables.specs.Keeping.{OnlyLines}
+use Rattle.asm_line_tables.specs.Placing.{place_loc, place_numbered_file}
 use Rattle.asm_place.specs.declared.bodies.Body.TheVariants as body
 use Rattle.asm_place.specs.Bodies.{body_of}
 use Rattle.asm_place.specs.Coding.{place_instruction}
-use Rattle.asm_place.specs.Placing.{initial_number, place_by, place_found, place_directive, place_body, place_unlabelled}
+use Rattle.asm_place.specs.Placing.{initial_number, names_source, place_any_file, place_by, place_found, place_directive, place_body, place_unlabelled}
 use Rattle.asm_place.specs.PutSections.{section_of_directive, section_put}
 use Rattle.asm_place.specs.Remarks.{place_err, place_error, place_warning}
 use Rattle.asm_place.specs.Sources.{pos_at, located, place}
 use Rattle.asm_place.specs.SyntaxWords.{with_syntax, says_names, place_syntax}
 use Rattle.asm_place.proofs.GrowthLemmas.{get_append}
 use Rattle.asm_place.proofs.LabelLemmas.{tokens_unlabelled}
-use Rattle.asm_place.proofs.Walks.{FramesKeep, Fine, made, refused, known, weaker, step, after, either}
+use Rattle.asm_place.proofs.Walks.{TablesKeep, Fine, made, refused, known, weaker, step, after, either}
 use Rattle.asm_place.proofs.PutSections.{Holds, Kept, Stays, bytes_keep, push_keeps, instruction_keeps, data_keeps, strings_keep, leb128_keeps, zero_keeps, skip_keeps, fill_keeps, align_keeps, org_keeps}
 
 -- what is there is there before the end
@@ -288,10 +291,18 @@ module _ (number : ℕ) (held : LooseSection) where
   bare_keeps [] answer kept = kept
   bare_keeps (token ∷ rest) answer kept = refused _
 
-  module _ (frames : FramesKeep) where
+  line_keeps : (pos : Pos) (placed : Placed) (answer : Result Placed PlaceCause) → IfOk answer (OnlyLines pos placed) → Kept number held placed → Fine (Kept number held) answer
+  line_keeps pos placed answer keeps kept = weaker (known answer keeps) (λ after only. subst (Kept number held) (sym only.is) kept)
+
+  module _ (tables : TablesKeep) where
     frame_keeps : (frame : FrameDirective) (pos : Pos) (tokens : List SpelledToken) (placed : Placed) → Kept number held placed → Fine (Kept number held) (place_frame frame pos tokens placed)
     frame_keeps frame pos tokens placed kept =
-        weaker (known (place_frame frame pos tokens placed) (frames frame pos tokens placed)) (λ after only. subst (Kept number held) (sym only.is) kept)
+        weaker (known (place_frame frame pos tokens placed) (tables.frames frame pos tokens placed)) (λ after only. subst (Kept number held) (sym only.is) kept)
+
+    any_file_keeps : (pos : Pos) (tokens : List SpelledToken) (placed : Placed) → Kept number held placed → Fine (Kept number held) (place_any_file pos tokens placed)
+    unfolding place_any_file
+    any_file_keeps pos tokens placed kept =
+        either (names_source tokens) (file_keeps tokens placed kept) (line_keeps pos placed (place_numbered_file pos tokens placed) (tables.files pos tokens placed) kept)
 
     -- that a directive puts into some other section
     abbrev IsElsewhere : Option ℕ → Type 0
@@ -331,7 +342,8 @@ module _ (number : ℕ) (held : LooseSection) where
     directive_keeps directive.Comm pos tokens placed kept other = comm_keeps (λ same. other (ap Some same)) pos tokens placed kept
     directive_keeps directive.Lcomm pos tokens placed kept other = lcomm_keeps (λ same. other (ap Some same)) pos tokens placed kept
     directive_keeps directive.Ident pos tokens placed kept other = ident_keeps pos tokens placed other kept
-    directive_keeps directive.File pos tokens placed kept other = file_keeps tokens placed kept
+    directive_keeps directive.File pos tokens placed kept other = any_file_keeps pos tokens placed kept
+    directive_keeps directive.Loc pos tokens placed kept other = line_keeps pos placed (place_loc pos tokens placed) (tables.rows pos tokens placed) kept
     directive_keeps (directive.Error said) pos tokens placed kept other = error_keeps said tokens
     directive_keeps directive.Warning pos tokens placed kept other = warning_keeps pos tokens placed kept
     directive_keeps (directive.Syntax syntax) pos tokens placed kept other = syntax_keeps syntax tokens placed kept
@@ -374,7 +386,7 @@ module _ (number : ℕ) (held : LooseSection) where
         (unlabelled_keeps (pos_at s.file s.line) s.tokens placed kept other))
 
 -- a statement without labels keeps each section but the one that it puts into
-pub section_kept : FramesKeep → (s : TokenStatement) (before after : Placed) (number : ℕ) (held : LooseSection) → begins_with_label s.tokens ≡ false → place s before ≡ Ok after
+pub section_kept : TablesKeep → (s : TokenStatement) (before after : Placed) (number : ℕ) (held : LooseSection) → begins_with_label s.tokens ≡ false → place s before ≡ Ok after
     → slice_get before.sections number ≡ Some held → section_put (body_of s.tokens) before ≢ Some number → slice_get after.sections number ≡ Some held
-section_kept frames s before after number held bare is there other =
-    IfOk-at_ok (Kept number held) is (statement_keeps number held frames s before bare there other).holds
+section_kept tables s before after number held bare is there other =
+    IfOk-at_ok (Kept number held) is (statement_keeps number held tables s before bare there other).holds

@@ -8,6 +8,7 @@ mod LabelLemmas
 mod BodyLemmas
 mod Walks
 mod TakenPlaces
+mod LineSteps
 mod ProcedureSteps
 mod SectionSteps
 mod DirectiveSteps
@@ -17,6 +18,7 @@ mod InstructionLaws
 mod CodeParts
 mod CodingFields
 mod CodeLaws
+mod KeptLines
 mod SplitLaws
 mod JumpLaws
 mod NamedSymbols

@@ -29,7 +29,7 @@ use Rattle.amount_forms.specs.Amounts.{in_text_order}
 use Rattle.asm_place.specs.Coding.{InsnShape, shape_in, values_in, of_operands, of_code, fields_of, put_rest, put_code, keeps_place, put_coded, put_by_jump, put_insn, insn_of_trees, from_own_place, place_insn, place_read, lone_code, insn_by, place_coded, place_instruction}
 use Rattle.asm_place.specs.CodePlaces.{labelled}
 use Rattle.asm_place.specs.Sources.{pos_at, located, place, place_all}
-use Rattle.asm_place.proofs.Walks.{FramesKeep, Fine, made, refused, step, after, either}
+use Rattle.asm_place.proofs.Walks.{TablesKeep, Fine, made, refused, step, after, either}
 use Rattle.asm_uses.specs.declared.tables.Naming.{Naming}
 use Rattle.asm_uses.specs.Tables.{naming_of}
 use Rattle.std.proofs.Common.{zero, suc, ◌<◌, arith}
@@ -158,13 +158,13 @@ places_begin no_warn = record {
   fields = fields_begin 0;
 }
 
-module _ (frames : FramesKeep) (leads : LeadsAreFound) where
+module _ (tables : TablesKeep) (leads : LeadsAreFound) where
   body_walk : (pos : Pos) (first : SpelledToken) (rest : List SpelledToken) (placed : Placed) → PlacesStand placed → Walks placed (place_body pos first rest placed)
   unfolding place_body
   body_walk pos first rest placed stands =
       either (names_symbol first && is_assignment rest) (assignment_walk leads pos first (drop 1 rest) placed stands)
       (either (not (is_name first)) (refused UnknownMnemonic)
-      (either (begins_with_dot first.bytes) (directive_walk frames leads pos first.bytes rest placed stands) (instruction_walk pos (first ∷ rest) placed stands)))
+      (either (begins_with_dot first.bytes) (directive_walk tables leads pos first.bytes rest placed stands) (instruction_walk pos (first ∷ rest) placed stands)))
 
   -- labels, and what stands behind them
   labelled_walk : (pos : Pos) (tokens : List SpelledToken) (placed : Placed) → PlacesStand placed → Walks placed (place_labelled pos tokens placed)

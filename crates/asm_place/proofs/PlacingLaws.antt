@@ -3,7 +3,7 @@ use Rattle.std.proofs.Common.{◌≡◌, ℕ, Bool, false, List, [], ◌∷◌, 
 use Rattle.std.specs.Prelude.{◌&&◌, ◌+◌, not, drop, slice_range}
 use Rattle.std.proofs.lemmas.Result.{IfOk-at_ok, IfErr-at_err}
 use Rattle.asm_operands.specs.declared.place_faults.PlaceCause.{PlaceCause}
-use Rattle.asm_operands.specs.declared.place_faults.PlaceCause.TheVariants.{BadExpression, NumberTooWide, ExpressionTooDeep, DivisionByZero, ValueNotKnown, NotASumOfSymbols, ErrorDirective, UnknownMnemonic, UnknownDirective, BadOperand, NoSuchForm, UnknownOperandSize, OutOfRange, BadSection, SymbolAlreadyDefined, BadSymbolUse, CfiOutsideProcedure, UnbalancedCfiState}
+use Rattle.asm_operands.specs.declared.place_faults.PlaceCause.TheVariants.{BadExpression, NumberTooWide, ExpressionTooDeep, DivisionByZero, ValueNotKnown, NotASumOfSymbols, ErrorDirective, UnknownMnemonic, UnknownDirective, BadOperand, NoSuchForm, UnknownOperandSize, OutOfRange, BadSection, SymbolAlreadyDefined, BadSymbolUse, CfiOutsideProcedure, UnbalancedCfiState, UnassignedFileNumber, FileNumberInUse}
 use Rattle.asm_base.specs.declared.notes.Noted.{Noted}
 use Rattle.asm_base.specs.declared.positions.Pos.{Pos}
 use Rattle.asm_base.specs.Tokens.{SpelledToken}
@@ -35,8 +35,9 @@ use Rattle.asm_place.specs.Instructions.{Grows}
 use Rattle.asm_place.specs.SourceSizes.{AreFewSections}
 use Rattle.asm_place.proofs.GrowthLemmas.{nothing_within, nothing_few}
 use Rattle.asm_uses.specs.Tables.{changed_by, naming_of}
-use Rattle.asm_place.proofs.Walks.{FramesKeep, made, refused, after, either}
+use Rattle.asm_place.proofs.Walks.{TablesKeep, made, refused, after, either}
 use Rattle.asm_place.proofs.ProcedureSteps.{DirectivesKeep, nothing_fit, Led, Steps, still, grown, stand_in_order}
+use Rattle.asm_place.specs.LinePlaces.{LinesFollow}
 use Rattle.asm_place.specs.ProcedurePlaces.{StandInOrder}
 use Rattle.asm_place.specs.SymbolPlaces.{PlacesStand}
 use Rattle.asm_place.proofs.SectionSteps.{bytes_steps, field_steps, growing_steps}
@@ -100,14 +101,14 @@ instruction_steps : (pos : Pos) (tokens : List SpelledToken) (placed : Placed) �
 unfolding place_instruction
 instruction_steps pos tokens placed = coded_steps pos (lone_code placed.syntax tokens) tokens placed
 
-module _ (frames : FramesKeep) where
+module _ (tables : TablesKeep) where
   -- statements
   body_steps : (pos : Pos) (first : SpelledToken) (rest : List SpelledToken) (placed : Placed) → Steps placed (place_body pos first rest placed)
   unfolding place_body
   body_steps pos first rest placed =
       either (names_symbol first && is_assignment rest) (assignment_steps pos first (drop 1 rest) placed)
       (either (not (is_name first)) (refused UnknownMnemonic)
-      (either (begins_with_dot first.bytes) (directive_steps frames pos first.bytes rest placed) (instruction_steps pos (first ∷ rest) placed)))
+      (either (begins_with_dot first.bytes) (directive_steps tables pos first.bytes rest placed) (instruction_steps pos (first ∷ rest) placed)))
 
   -- a label
   label_steps : (pos : Pos) (token : SpelledToken) (placed : Placed) → Steps placed (place_label pos token placed)
@@ -169,6 +170,12 @@ module _ (frames : FramesKeep) where
       stand_in_order placed.sections placed.procedures stands.procedures
       ((all_led statements (nothing_placed no_warn) placed is).fit laws law (nothing_within no_warn) (nothing_fit (nothing_placed no_warn).sections))
 
+  -- and the line table goes on
+  pub all_follow : (statements : List TokenStatement) (before placed : Placed) → place_all statements before ≡ Ok placed → LinesFollow before placed
+  all_follow statements before placed is =
+      let rows = (all_led statements before placed is).rows in
+      record { directives = rows.directives; taken = rows.taken; fit = rows.fit; stand = rows.stand; rise = rows.rise }
+
 -- no fault of placing is that a file is too large
 not_of_reading : (tokens : List SpelledToken) (fault : PlaceCause) → is_too_large (statement_fault tokens fault) ≡ false
 not_of_reading tokens BadExpression = refl
@@ -189,6 +196,8 @@ not_of_reading tokens SymbolAlreadyDefined = refl
 not_of_reading tokens BadSymbolUse = refl
 not_of_reading tokens CfiOutsideProcedure = refl
 not_of_reading tokens UnbalancedCfiState = refl
+not_of_reading tokens UnassignedFileNumber = refl
+not_of_reading tokens FileNumberInUse = refl
 
 -- so it is with a fault in its place
 located_fault : (s : TokenStatement) (notes : List Noted) (answer : Result Placed PlaceCause) (stop : FaultAt) → located s notes answer ≡ Err stop → is_file_too_large stop.fault ≡ false

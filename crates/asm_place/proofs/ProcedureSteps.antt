@@ -1,4 +1,4 @@
--- What a step adds to sections, and the procedures, whose places stand in order inside them.
+-- What a step adds to sections, and the procedures, whose places stand in order inside them, and to the line table.
 use Rattle.std.proofs.Common.{◌≡◌, ℕ, ◌≤◌, List, [], ◌∷◌, All, length, take, drop, slice_get, Option, None, Some, Result, Ok, Err, refl, sym, ◌∙◌, subst, arith, length-append}
 use Rattle.std.specs.Prelude.{IfSome, map}
 use Rattle.std.specs.Option.{option_map_or}
@@ -21,11 +21,14 @@ use Rattle.cfi_directives.specs.Order.{IsUpTo, last_place, IsInOrder, AreInOrder
 use Rattle.cfi_directives.specs.Procedures.{Procedures, no_procedures, frames_of}
 use Rattle.cfi_directives.specs.Sound.{IsWhole, AreSound}
 use Rattle.cfi_directives.specs.Taking.{taken, taken_from}
+use Rattle.asm_line_tables.specs.Keeping.{FitsHere as RowFits}
+use Rattle.line_directives.specs.Taking.{LineTable, LineDirective, taken_from as rows_taken}
 use Rattle.section_laws.specs.Within.{IsWithin, AreWithin, PutsStayWithin}
 use Rattle.asm_place.specs.Instructions.{with_more, Grows}
 use Rattle.asm_place.specs.ProcedurePlaces.{IsInside, StandsInside, StandInOrder}
 use Rattle.asm_place.specs.SymbolPlaces.{ProcedureStands}
 use Rattle.asm_place.proofs.GrowthLemmas.{Adds, All-there, adds_nothing, adds_on}
+use Rattle.asm_place.proofs.LineSteps.{GoesOn, lines_stay, goes_on, rows_put}
 use Rattle.asm_place.proofs.Walks.{Fine, made, refused, step}
 use Rattle.asm_place.proofs.TakenPlaces.{HasPlaces, HavePlaces, last_has, taken_has, reached_there}
 
@@ -200,37 +203,49 @@ module _ (laws : DirectivesKeep) (placed : Placed) (within : AreWithin placed.se
 
 -- STEPS
 
--- sections are added to, and procedures stay fit
-pub record Leads (before : List LooseSection) (had : Procedures) (after : List LooseSection) (has : Procedures) : Type 0 where
+-- sections are added to, procedures stay fit, and the line table goes on
+pub record Leads (before : List LooseSection) (had : Procedures) (lined : LineTable) (after : List LooseSection) (has : Procedures) (lines : LineTable) : Type 0 where
   pub adds : Adds before after
   pub fit : DirectivesKeep → PutsStayWithin → AreWithin before → AreFit before had → AreFit after has
+  pub rows : GoesOn before lined after lines
 
 -- what was placed leads to more
 abbrev pub Led : Placed → Placed → Type 0
-Led before after = Leads before.sections before.procedures after.sections after.procedures
+Led before after = Leads before.sections before.procedures before.lines after.sections after.procedures after.lines
 
 -- a step from what was placed before
 abbrev pub Steps : {E : Type 0} → Placed → Result Placed E → Type 0
 Steps before = Fine (Led before)
 
 -- sections alone are added to
-pub leads_by : (before after : List LooseSection) (procedures : Procedures) → Adds before after → Leads before procedures after procedures
-leads_by before after procedures adds = record { adds = adds; fit = λ laws law within fit. fit_later before after procedures adds.grows fit }
+pub leads_by : (before after : List LooseSection) (procedures : Procedures) (lines : LineTable) → Adds before after → Leads before procedures lines after procedures lines
+leads_by before after procedures lines adds =
+    record { adds = adds; fit = λ laws law within fit. fit_later before after procedures adds.grows fit; rows = lines_stay before after lines adds.grows }
 
--- both stay
+-- all stay
 pub still : (placed : Placed) → Led placed placed
-still placed = leads_by placed.sections placed.sections placed.procedures (adds_nothing placed.sections)
+still placed = leads_by placed.sections placed.sections placed.procedures placed.lines (adds_nothing placed.sections)
 
--- directives are taken at one place
+-- directives of procedures are taken at one place
 pub leads_lines : (placed : Placed) (lines : List CfiLine) (procedures : Procedures) → taken_from placed.procedures (map (line_here placed) lines) ≡ Ok procedures
-    → Leads placed.sections placed.procedures placed.sections procedures
-leads_lines placed lines procedures is =
-    record { adds = adds_nothing placed.sections; fit = λ laws law within fit. lines_fit laws placed within lines placed.procedures procedures is fit }
+    → Leads placed.sections placed.procedures placed.lines placed.sections procedures placed.lines
+leads_lines placed lines procedures is = record {
+  adds = adds_nothing placed.sections;
+  fit = λ laws law within fit. lines_fit laws placed within lines placed.procedures procedures is fit;
+  rows = lines_stay placed.sections placed.sections placed.lines (adds_nothing placed.sections).grows;
+}
+
+-- directives of the line table are taken there
+pub leads_rows : (placed : Placed) (directives : List LineDirective) (lines : LineTable) → rows_taken placed.lines directives ≡ Ok lines
+    → All (RowFits placed) directives → Leads placed.sections placed.procedures placed.lines placed.sections placed.procedures lines
+leads_rows placed directives lines is fit =
+    record { adds = adds_nothing placed.sections; fit = λ laws law within fit. fit; rows = rows_put placed directives lines is fit }
 
 leads_on : (before between after : Placed) → Led before between → Led between after → Led before after
 leads_on before between after first later = record {
   adds = adds_on before.sections between.sections after.sections first.adds later.adds;
   fit = λ laws law within fit. later.fit laws law (first.adds.within law within) (first.fit laws law within fit);
+  rows = goes_on before.sections before.lines between.sections between.lines after.sections after.lines later.adds.grows first.rows later.rows;
 }
 
 -- what is led to leads on

@@ -49,7 +49,7 @@ module _ (put : LooseSection → Result LooseSection FragCause) (puts : (section
   put_steps : (number : ℕ) (placed : Placed) → Steps placed (put_section put number placed)
   put_steps number placed =
       step (there_adds placed.sections number (slice_get placed.sections number) refl)
-      (λ sections adds. made (record placed { sections = sections }) (leads_by placed.sections sections placed.procedures adds))
+      (λ sections adds. made (record placed { sections = sections }) (leads_by placed.sections sections placed.procedures placed.lines adds))
 
 -- bytes
 pub bytes_steps : (pos : Pos) (number : ℕ) (bytes : List ℕ) (placed : Placed) → Steps placed (put_bytes_into pos number bytes placed)
@@ -126,7 +126,7 @@ enter_steps pos words placed =
     after (entry_size_in (known_here named) words.entry_size)
     (λ size. after (header_by placed.sections words size) (λ header. step (entered_adds placed.sections words.name header)
     (λ pair adds. after (allowed (naming_of trees placed.table) named.table)
-    (λ table. made (with_table (with_current pair.1 (record named { sections = pair.0 })) table) (leads_by placed.sections pair.0 placed.procedures adds)))))
+    (λ table. made (with_table (with_current pair.1 (record named { sections = pair.0 })) table) (leads_by placed.sections pair.0 placed.procedures placed.lines adds)))))
 
 -- and by its tokens
 pub section_steps : (pos : Pos) (tokens : List SpelledToken) (placed : Placed) → Steps placed (place_section pos tokens placed)

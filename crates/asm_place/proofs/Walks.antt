@@ -8,6 +8,8 @@ use Rattle.asm_words.specs.declared.directives.FrameDirective.{FrameDirective}
 use Rattle.asm_values.specs.State.{Placed}
 use Rattle.asm_frames.specs.Placing.{place_frame}
 use Rattle.asm_frames.specs.Keeping.{OnlyNames}
+use Rattle.asm_line_tables.specs.Placing.{place_loc, place_numbered_file}
+use Rattle.asm_line_tables.specs.Keeping.{OnlyLines}
 
 -- what is known of what a step makes
 pub record Fine {A E : Type 0} (P : A → Type 0) (result : Result A E) : Type 0 where
@@ -41,9 +43,11 @@ pub after : {A B E : Type 0} {Q : B → Type 0} (r : Result A E) {f : A → Resu
 after (Ok x) later = later x
 after (Err fault) later = refused fault
 
--- what the law of frame directives says
-abbrev pub FramesKeep : Type 0
-FramesKeep = (directive : FrameDirective) (pos : Pos) (tokens : List SpelledToken) (placed : Placed) → IfOk (place_frame directive pos tokens placed) (OnlyNames pos placed)
+-- what the laws of the directives of frame tables and of line tables say
+pub record TablesKeep : Type 0 where
+  pub frames : (directive : FrameDirective) (pos : Pos) (tokens : List SpelledToken) (placed : Placed) → IfOk (place_frame directive pos tokens placed) (OnlyNames pos placed)
+  pub rows : (pos : Pos) (tokens : List SpelledToken) (placed : Placed) → IfOk (place_loc pos tokens placed) (OnlyLines pos placed)
+  pub files : (pos : Pos) (tokens : List SpelledToken) (placed : Placed) → IfOk (place_numbered_file pos tokens placed) (OnlyLines pos placed)
 
 -- two branches, whatever the test says
 pub either : {A E : Type 0} {P : A → Type 0} (test : Bool) {r s : Result A E} → Fine P r → Fine P s → Fine P (cond test r s)

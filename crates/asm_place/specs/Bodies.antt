@@ -54,5 +54,6 @@ pub record AreLabels (before after : Placed) : Type 0 where
   pub stack : after.stack ≡ before.stack
   pub syntax : after.syntax ≡ before.syntax
   pub procedures : after.procedures ≡ before.procedures
+  pub lines : after.lines ≡ before.lines
   pub no_warn : after.no_warn ≡ before.no_warn
   pub notes : after.notes ≡ before.notes

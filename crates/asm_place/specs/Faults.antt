@@ -6,7 +6,7 @@ use Rattle.asm_base.specs.declared.faults.StatementFault.TheVariants as statemen
 use Rattle.asm_base.specs.declared.faults.Fault.{Fault}
 use Rattle.asm_base.specs.declared.faults.Fault.TheVariants.{Statement, End, Scfi}
 use Rattle.asm_operands.specs.declared.place_faults.PlaceCause.{PlaceCause}
-use Rattle.asm_operands.specs.declared.place_faults.PlaceCause.TheVariants.{BadExpression, NumberTooWide, ExpressionTooDeep, DivisionByZero, ValueNotKnown, NotASumOfSymbols, ErrorDirective, UnknownMnemonic, UnknownDirective, BadOperand, NoSuchForm, UnknownOperandSize, OutOfRange, BadSection, SymbolAlreadyDefined, BadSymbolUse, CfiOutsideProcedure, UnbalancedCfiState}
+use Rattle.asm_operands.specs.declared.place_faults.PlaceCause.TheVariants.{BadExpression, NumberTooWide, ExpressionTooDeep, DivisionByZero, ValueNotKnown, NotASumOfSymbols, ErrorDirective, UnknownMnemonic, UnknownDirective, BadOperand, NoSuchForm, UnknownOperandSize, OutOfRange, BadSection, SymbolAlreadyDefined, BadSymbolUse, CfiOutsideProcedure, UnbalancedCfiState, UnassignedFileNumber, FileNumberInUse}
 use Rattle.asm_place.specs.Remarks.{last_string}
 
 -- the fault that placing answers, as one of the statement with these tokens
@@ -29,6 +29,8 @@ statement_fault tokens SymbolAlreadyDefined = statement.SymbolAlreadyDefined
 statement_fault tokens BadSymbolUse = statement.BadSymbolUse
 statement_fault tokens CfiOutsideProcedure = statement.CfiOutsideProcedure
 statement_fault tokens UnbalancedCfiState = statement.UnbalancedCfiState
+statement_fault tokens UnassignedFileNumber = statement.UnassignedFileNumber
+statement_fault tokens FileNumberInUse = statement.FileNumberInUse
 
 -- a fault of a statement that says that a file is too large
 abbrev pub is_too_large : StatementFault → Bool

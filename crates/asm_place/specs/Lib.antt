@@ -14,4 +14,5 @@ pub mod CodePlaces
 pub mod JumpPlaces
 pub mod SymbolPlaces
 pub mod ProcedurePlaces
+pub mod LinePlaces
 pub mod SourceSizes

@@ -1,9 +1,11 @@
 -- What each statement adds to the sections, the symbols and the notes, or its fault.
-use Rattle.std.specs.Prelude.{ℕ, ◌&&◌, ◌||◌, Bool, false, not, List, [], ◌∷◌, drop, Option, None, Some, Result, Ok, Err, if◌then◌else◌}
+use Rattle.std.specs.Prelude.{ℕ, ◌&&◌, ◌||◌, Bool, true, false, not, List, [], ◌∷◌, drop, Option, None, Some, Result, Ok, Err, if◌then◌else◌}
 use Rattle.std.specs.Result.{is_err}
 use Rattle.asm_operands.specs.declared.place_faults.PlaceCause.{PlaceCause}
 use Rattle.asm_operands.specs.declared.place_faults.PlaceCause.TheVariants.{NumberTooWide, UnknownMnemonic, UnknownDirective}
 use Rattle.asm_base.specs.declared.positions.Pos.{Pos}
+use Rattle.asm_base.specs.declared.tokens.TokenKind.{TokenKind}
+use Rattle.asm_base.specs.declared.tokens.TokenKind.TheVariants.{String}
 use Rattle.asm_base.specs.Tokens.{SpelledToken}
 use Rattle.expr_texts.specs.Numbers.{numeral}
 use Rattle.asm_symbols.specs.declared.entries.Definition.TheVariants.{Label}
@@ -26,6 +28,7 @@ use Rattle.asm_place.specs.Remarks.{place_error, place_warning}
 use Rattle.asm_place.specs.SyntaxWords.{place_syntax}
 use Rattle.asm_place.specs.Coding.{place_instruction}
 use Rattle.asm_frames.specs.Placing.{place_frame}
+use Rattle.asm_line_tables.specs.Placing.{place_loc, place_numbered_file}
 use Rattle.asm_words.specs.Directives.{directive_of}
 use Rattle.asm_uses.specs.Labels.{label_symbol}
 use Rattle.asm_items.specs.Alignments.{place_align}
@@ -38,6 +41,20 @@ abbrev pub initial_number : InitialSection → ℕ
 initial_number Text = 0
 initial_number Data = 1
 initial_number Bss = 2
+
+-- the class of strings
+abbrev pub is_string_kind : TokenKind → Bool
+is_string_kind String = true
+is_string_kind _ = false
+
+-- a string stands first, or nothing
+abbrev pub names_source : List SpelledToken → Bool
+names_source [] = true
+names_source (token ∷ rest) = is_string_kind token.kind
+
+-- `.file`: the name of the source, or with a number in front a file of the line table
+unfoldable pub place_any_file : Pos → List SpelledToken → Placed → Result Placed PlaceCause
+place_any_file pos tokens placed = if names_source tokens then place_file tokens placed else place_numbered_file pos tokens placed
 
 -- a directive, by what it is
 unfoldable pub place_by : Directive → Pos → List SpelledToken → Placed → Result Placed PlaceCause
@@ -61,7 +78,8 @@ place_by (directive.Assign once) pos tokens placed = place_set pos once tokens p
 place_by directive.Comm pos tokens placed = place_comm pos tokens placed
 place_by directive.Lcomm pos tokens placed = place_lcomm pos tokens placed
 place_by directive.Ident pos tokens placed = place_ident pos tokens placed
-place_by directive.File pos tokens placed = place_file tokens placed
+place_by directive.File pos tokens placed = place_any_file pos tokens placed
+place_by directive.Loc pos tokens placed = place_loc pos tokens placed
 place_by (directive.Error said) pos tokens placed = place_error said tokens
 place_by directive.Warning pos tokens placed = place_warning pos tokens placed
 place_by (directive.Syntax syntax) pos tokens placed = place_syntax syntax tokens placed

@@ -23,6 +23,7 @@ ghost use Rattle.asm_place.specs.Faults.{is_file_too_large};
 ghost use Rattle.att_insns.specs.InsnTexts.{InsnText};
 ghost use Rattle.asm_place.specs.CodePlaces.{insn_written, insn_in, is_instruction, BeginsAsInstruction, IsInsnPut, InsnStands, jump_in};
 ghost use Rattle.asm_place.specs.SymbolPlaces.{AreUpTo, PlacesStand};
+ghost use Rattle.asm_place.specs.LinePlaces.{LinesFollow};
 ghost use Rattle.asm_place.specs.ProcedurePlaces.{StandInOrder};
 ghost use Rattle.asm_place.specs.SourceSizes.{IsSmall};
 ghost use Rattle.asm_place.specs.JumpPlaces.{IsJump, IsJumpPut, JumpStands, jump_written};
@@ -33,6 +34,7 @@ ghost use Rattle.asm_place.specs.Instructions.{behind_labels, instruction_writte
 ghost use Rattle.section_laws.specs.Within.{AreWithin};
 
 use asm_frames::frame_directives_keep_all_else;
+use asm_line_tables::line_directives_keep_all_else;
 use asm_symbols::leads_is_decided;
 use cfi_directives::{places_never_fall, procedures_are_sound};
 use jump_laws::{conditions_are_numbered, jump_codes_read};
@@ -46,6 +48,7 @@ pub fn placing_grows()
         → place_all statements before ≡ Ok placed → Grows before.sections placed.sections }
 {
     frame_directives_keep_all_else();
+    line_directives_keep_all_else();
 }
 
 /// Fields and items stand within the bytes of their section: so it is at the beginning, and placing
@@ -57,6 +60,7 @@ pub fn placing_within()
         → AreWithin placed.sections }
 {
     frame_directives_keep_all_else();
+    line_directives_keep_all_else();
     puts_stay_within();
 }
 
@@ -104,6 +108,7 @@ pub fn statements_put_into_one_section()
         → slice_get after.sections number ≡ Some held }
 {
     frame_directives_keep_all_else();
+    line_directives_keep_all_else();
 }
 
 /// A mnemonic that has bytes of its own is read where it stands alone; so each instruction that is placed
@@ -142,6 +147,7 @@ pub fn instruction_items()
         coded.bytes }
 {
     frame_directives_keep_all_else();
+    line_directives_keep_all_else();
     puts_stay_within();
     bare_codes_read();
 }
@@ -172,6 +178,7 @@ pub fn encoding_items()
         → InsnStands whole.sections (pos_at s.file s.line) s.tokens text placed }
 {
     frame_directives_keep_all_else();
+    line_directives_keep_all_else();
     puts_stay_within();
     fields_stand_apart();
 }
@@ -199,6 +206,7 @@ pub fn jump_items()
         → JumpStands whole.sections (pos_at s.file s.line) s.tokens text condition placed }
 {
     frame_directives_keep_all_else();
+    line_directives_keep_all_else();
     puts_stay_within();
 }
 
@@ -235,6 +243,7 @@ pub fn places_stand()
         → AreUpTo (length whole.table.symbols.symbols) jump.forms.displacement.terms }
 {
     frame_directives_keep_all_else();
+    line_directives_keep_all_else();
     leads_is_decided();
 }
 
@@ -245,6 +254,7 @@ pub fn sources_are_small()
         → place_all statements (nothing_placed no_warn) ≡ Ok placed → IsSmall placed }
 {
     frame_directives_keep_all_else();
+    line_directives_keep_all_else();
     leads_is_decided();
 }
 
@@ -257,8 +267,27 @@ pub fn procedures_stand_in_order()
         → StandInOrder placed.sections placed.procedures }
 {
     frame_directives_keep_all_else();
+    line_directives_keep_all_else();
     puts_stay_within();
     places_stand();
     procedures_are_sound();
     places_never_fall();
 }
+
+/// The line table of what was placed goes on with directives more, whose numbers are in their ranges. Their
+/// rows stand in sections that are there and take bytes, and those of each section rise from where it ended
+/// up to where it ends.
+pub fn lines_follow()
+    ensures { (statements : List TokenStatement) (before placed : Placed)
+        → place_all statements before ≡ Ok placed → LinesFollow before placed }
+{
+    frame_directives_keep_all_else();
+    line_directives_keep_all_else();
+}
+
+/// An instruction leaves the line table as it is.
+pub fn instructions_keep_lines()
+    ensures { (s : TokenStatement) (before placed : Placed)
+        → is_instruction before.syntax (behind_labels s.tokens) ≡ true
+        → place s before ≡ Ok placed → placed.lines ≡ before.lines }
+{}

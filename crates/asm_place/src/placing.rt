@@ -2,7 +2,7 @@
 
 ghost use Rattle.std.specs.Prelude.{◌≡◌, ◌∷◌, map, Ok};
 ghost use Rattle.asm_base.specs.Tokens.{spelled};
-ghost use Rattle.asm_place.specs.Placing.{initial_number, is_too_wide, has_wide_label, place_by, place_directive, place_body, place_label, place_unlabelled, place_labelled, place_tokens};
+ghost use Rattle.asm_place.specs.Placing.{initial_number, is_too_wide, has_wide_label, names_source, place_any_file, place_by, place_directive, place_body, place_label, place_unlabelled, place_labelled, place_tokens};
 ghost use Rattle.asm_base.specs.Refusals.{Gives};
 ghost use Rattle.asm_operands.specs.Operands.{begins_with_label};
 ghost use Rattle.asm_values.specs.Answers.{KeepsNotes};
@@ -13,13 +13,14 @@ use crate::instructions::place_instruction;
 use crate::remarks::{place_error, place_warning};
 use crate::syntax_words::place_syntax;
 use crate::watches::Watch;
-use asm_base::{Pos, Token};
+use asm_base::{Pos, Token, TokenKind};
 use asm_declarations::{
     place_comm, place_file, place_ident, place_lcomm, place_popped, place_pushed, place_said,
     place_section, place_type, set_current,
 };
 use asm_frames::place_frame;
 use asm_items::{place_align, place_leb128, place_org};
+use asm_line_tables::{place_loc, place_numbered_file};
 use asm_operands::{
     PlaceCause, PlaceFault, begins_assignment, begins_with_dot, begins_with_label, is_dot, is_mark,
     is_name, is_number, names_symbol,
@@ -87,6 +88,31 @@ fn place_change(assembler: &mut Assembler, number: u32, tokens: &[Token]) -> Res
     Ok(())
 }
 
+/// Whether a string stands first, or nothing.
+fn names_source(tokens: &[Token]) -> bool
+    ensures { result ≡ names_source (map spelled tokens.now) }
+{
+    match tokens.first() {
+        None => true,
+        Some(token) => matches!(token.kind, TokenKind::String),
+    }
+}
+
+/// `.file`: the name of the source, or with a number in front a file of the line table.
+#[inline(never)]
+#[tactic(auto, unfolding(crate::specs::Placing::place_any_file))]
+fn place_any_file(assembler: &mut Assembler, pos: Pos, tokens: &[Token]) -> Result<(), PlaceFault>
+    ensures placed { PlacesBy (place_any_file pos (map spelled tokens.now))
+        assembler.old assembler.new result }
+    ensures kept { assembler.new.notes ≡ assembler.old.notes }
+{
+    if names_source(tokens) {
+        place_file(assembler, tokens)
+    } else {
+        place_numbered_file(assembler, pos, tokens)
+    }
+}
+
 /// A directive, by what it is.
 #[inline(always)]
 #[tactic(auto, unfolding(crate::specs::Placing::place_by))]
@@ -121,7 +147,8 @@ fn place_by(
         Directive::Comm => place_comm(assembler, pos, tokens),
         Directive::Lcomm => place_lcomm(assembler, pos, tokens),
         Directive::Ident => place_ident(assembler, pos, tokens),
-        Directive::File => place_file(assembler, tokens),
+        Directive::File => place_any_file(assembler, pos, tokens),
+        Directive::Loc => place_loc(assembler, pos, tokens),
         Directive::Error { said } => place_error(assembler, said, tokens),
         Directive::Warning => place_warning(assembler, pos, tokens),
         Directive::Syntax(syntax) => place_syntax(assembler, syntax, tokens),

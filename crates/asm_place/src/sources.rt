@@ -47,6 +47,8 @@ fn statement_fault(
         PlaceCause::BadSymbolUse => StatementFault::BadSymbolUse,
         PlaceCause::CfiOutsideProcedure => StatementFault::CfiOutsideProcedure,
         PlaceCause::UnbalancedCfiState => StatementFault::UnbalancedCfiState,
+        PlaceCause::UnassignedFileNumber => StatementFault::UnassignedFileNumber,
+        PlaceCause::FileNumberInUse => StatementFault::FileNumberInUse,
     })
 }
 

@@ -8,6 +8,7 @@ mod relocations;
 mod reports;
 mod runs;
 mod sections;
+mod shown_lines;
 mod symbols;
 
 use anyhow::Result;

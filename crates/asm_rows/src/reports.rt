@@ -4,6 +4,7 @@ use crate::calls::write_every_call;
 use crate::frames::write_frames;
 use crate::objects::write_object;
 use crate::runs::{failing_calls, memory_files, run_row};
+use crate::shown_lines::write_line_table;
 use asm_base::Channel;
 use row_texts::{Row, RowFault, Shown, read_row};
 use std::alloc::{AllocError, Global};
@@ -44,6 +45,7 @@ fn write_row(alloc: Global, row: &Row, out: &mut Vec<u8>) -> io::Result<()> {
         Shown::Object => write_object(alloc, made, false, out),
         Shown::FullObject => write_object(alloc, made, true, out),
         Shown::Frames => write_frames(made, out),
+        Shown::LineTable => write_line_table(made, out),
         Shown::EveryCall => write_every_call(alloc, row, &files, &ran, out),
     }
 }

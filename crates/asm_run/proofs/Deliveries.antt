@@ -13,7 +13,7 @@ use Rattle.asm_base.specs.declared.positions.Pos.{Pos}
 use Rattle.asm_front.specs.declared.answers.Assembled.{Assembled}
 use Rattle.asm_front.specs.declared.answers.AsmFault.{AsmFault}
 use Rattle.asm_front.specs.declared.answers.AsmFault.TheVariants.{Source}
-use Rattle.asm_front.specs.declared.answers.Counts.{Counts}
+use Rattle.source_ends.specs.declared.ending.Counts.{Counts}
 use Rattle.asm_front.specs.Assembly.{Assembly}
 use Rattle.asm_front.specs.Outcome.{AssemblesAs, AssemblesKnown}
 use Rattle.run_words.specs.Words.{Invocation}

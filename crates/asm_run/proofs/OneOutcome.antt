@@ -8,8 +8,8 @@ use Rattle.asm_lines.specs.Statements.{statements_of}
 use Rattle.asm_macro.specs.Placing.{Step, goes, ended, fails, refused, misses, untold, expansion}
 use Rattle.asm_place.specs.declared.place_faults.FaultAt.{FaultAt}
 use Rattle.asm_functions.specs.FollowedSource.{FollowedSource, nothing_followed}
-use Rattle.asm_front.specs.Synthesis.{Synthesis, IsSynthesis}
-use Rattle.asm_front.specs.Ending.{Flags}
+use Rattle.source_ends.specs.Synthesis.{Synthesis, IsSynthesis}
+use Rattle.source_ends.specs.Ending.{Flags}
 use Rattle.asm_front.specs.Sources.{MainSource, file, given, name_of, source_in}
 use Rattle.asm_front.specs.Assembly.{Assembly, faulty, main_file, too_large, shown_files, placed_after, told_of, assembly_by, known_by, expansion_of, assembly_of, given_assembly, file_assembly, main_assembly, StepIsMade, SourceIsMade, FileIsMade, IsMade}
 use Rattle.run_words.specs.Words.{Invocation}

@@ -3,7 +3,7 @@ use Rattle.std.proofs.Common.{◌≡◌, ℕ, List, Option, None, Some, Ok, sym,
 use Rattle.asm_base.specs.Inputs.{Contents}
 use Rattle.asm_front.specs.Sources.{name_of, source_in}
 use Rattle.asm_front.specs.Assembly.{Assembly, handed_of}
-use Rattle.asm_front.specs.Synthesis.{Synthesis}
+use Rattle.source_ends.specs.Synthesis.{Synthesis}
 use Rattle.asm_front.specs.Fitting as front
 use Rattle.asm_front.specs.Fitting.{SourceIsReadable}
 use Rattle.asm_front.specs.Outcome.{Assembles, AssemblesFile}

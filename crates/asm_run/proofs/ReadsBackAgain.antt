@@ -2,9 +2,9 @@
 use Rattle.std.proofs.Common.{◌≡◌, ℕ, List, Option, None, Some, refl}
 use Rattle.asm_base.specs.Inputs.{Contents}
 use Rattle.asm_lines.specs.NextStatements.{TokenStatement}
-use Rattle.asm_front.specs.Synthesis.{Synthesis}
-use Rattle.asm_front.specs.Ending.{Flags}
-use Rattle.asm_front.specs.declared.ending.NotedObject.{NotedObject}
+use Rattle.source_ends.specs.Synthesis.{Synthesis}
+use Rattle.source_ends.specs.Ending.{Flags}
+use Rattle.source_ends.specs.declared.ending.NotedObject.{NotedObject}
 use Rattle.asm_front.specs.Sources.{name_of, source_in}
 use Rattle.asm_front.specs.Assembly.{Assembly, assembled, faulty, assembly_of, handed_of, SourceIsMade, FileIsMade, IsMade}
 use Rattle.asm_front.specs.Assembly as assembly

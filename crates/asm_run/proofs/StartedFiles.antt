@@ -4,8 +4,8 @@ use Rattle.std.specs.Option.{option_map}
 use Rattle.asm_base.specs.History.{FileEvent, happened, whole_files}
 use Rattle.asm_base.specs.Inputs.{Contents}
 use Rattle.asm_base.specs.WholeFile.{most_bytes}
-use Rattle.asm_front.specs.Synthesis.{Synthesis}
-use Rattle.asm_front.specs.Ending.{Flags}
+use Rattle.source_ends.specs.Synthesis.{Synthesis}
+use Rattle.source_ends.specs.Ending.{Flags}
 use Rattle.asm_front.specs.Sources.{MainSource, file, given, name_of, started_for, source_in}
 use Rattle.asm_front.specs.Assembly.{Assembly, assembled, faulty, included_by, assembly_of, file_assembly, main_assembly}
 use Rattle.asm_front.specs.Assembly as assembly

@@ -3,10 +3,10 @@ use Rattle.std.specs.Prelude.{ℕ, List, [], drop, length, Option, None, Some, i
 use Rattle.std.specs.Option.{option_map}
 use Rattle.asm_base.specs.Inputs.{Contents}
 use Rattle.asm_base.specs.Messages.{remarks, refusal}
-use Rattle.asm_front.specs.Ending.{Flags}
+use Rattle.source_ends.specs.Ending.{Flags}
 use Rattle.asm_base.specs.declared.statuses.Status.{Status}
 use Rattle.asm_base.specs.declared.statuses.Status.TheVariants.{Done, SourceFault, Usage, ReadFault, WriteFault, NoMemory}
-use Rattle.asm_front.specs.Synthesis.{Synthesis}
+use Rattle.source_ends.specs.Synthesis.{Synthesis}
 use Rattle.asm_front.specs.Sources.{MainSource, file, given}
 use Rattle.asm_front.specs.Assembly.{Assembly, assembled, faulty, main_assembly, IsMade}
 use Rattle.asm_front.specs.Assembly as assembly

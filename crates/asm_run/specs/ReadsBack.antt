@@ -2,10 +2,10 @@
 use Rattle.std.specs.Prelude.{ℕ, List, Option, None, Some}
 use Rattle.asm_base.specs.Inputs.{Contents}
 use Rattle.asm_lines.specs.NextStatements.{TokenStatement}
-use Rattle.asm_front.specs.Synthesis.{Synthesis}
+use Rattle.source_ends.specs.Synthesis.{Synthesis}
 use Rattle.asm_front.specs.Sources.{name_of, source_in}
 use Rattle.asm_front.specs.Assembly.{assembly_of, handed_of, IsMade}
-use Rattle.asm_front.specs.Ending.{Flags}
+use Rattle.source_ends.specs.Ending.{Flags}
 use Rattle.asm_front.specs.ReadsBack.{ReadsBack}
 use Rattle.run_words.specs.Words.{Invocation}
 use Rattle.asm_run.specs.Outcome.{Outcome, usage, missing, refused, object, flags_by, main_of_invocation, source_outcome}

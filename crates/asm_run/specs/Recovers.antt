@@ -3,10 +3,10 @@
 use Rattle.std.specs.Prelude.{ℕ, List, Option, None, Some}
 use Rattle.asm_base.specs.Inputs.{Contents}
 use Rattle.expansion_laws.specs.Handing.{AreBytes}
-use Rattle.asm_front.specs.Synthesis.{Synthesis}
+use Rattle.source_ends.specs.Synthesis.{Synthesis}
 use Rattle.asm_front.specs.Sources.{name_of, source_in}
 use Rattle.asm_front.specs.Assembly.{assembly_of, IsMade}
-use Rattle.asm_front.specs.Ending.{Flags}
+use Rattle.source_ends.specs.Ending.{Flags}
 use Rattle.recovery_laws.specs.Sources.{SourceRecovers}
 use Rattle.run_words.specs.Words.{Invocation}
 use Rattle.asm_run.specs.Outcome.{Outcome, object, flags_by, main_of_invocation, source_outcome}

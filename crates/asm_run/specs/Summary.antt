@@ -1,6 +1,6 @@
 -- What is said of a source that the assembler makes by itself.
 use Rattle.std.specs.Prelude.{ℕ, List, ◌++◌, Option, None, Some, codes, decimal}
-use Rattle.asm_front.specs.declared.answers.Counts.{Counts}
+use Rattle.source_ends.specs.declared.ending.Counts.{Counts}
 
 -- a line: what is counted, a blank, and the number
 abbrev pub summary_line : List ℕ → ℕ → List ℕ

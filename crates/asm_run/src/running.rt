@@ -6,7 +6,7 @@ ghost use Rattle.asm_base.specs.Counts.{HasCause, HasRisen, IsQuiet};
 ghost use Rattle.asm_front.specs.Sources.{main_of};
 ghost use Rattle.run_words.specs.Words.{command_of};
 ghost use Rattle.run_words.specs.Invoked.{invoked};
-ghost use Rattle.asm_front.specs.Synthesis.{Synthesis};
+ghost use Rattle.source_ends.specs.Synthesis.{Synthesis};
 ghost use Rattle.asm_run.specs.Outcome.{CommandHolds, CommandIsMade, invocation_outcome, main_of_command, main_of_invocation, outcome};
 ghost use Rattle.asm_run.specs.Readable.{CommandIsReadable, InvocationIsReadable};
 ghost use Rattle.asm_run.specs.ReadsBack.{CommandReadsBack};
@@ -16,11 +16,12 @@ ghost use Rattle.asm_run.specs.Answers.{Answers, Completes, CountsMissingOutcome
 use crate::saying::{say_all, say_report};
 use crate::summary::report_of;
 use asm_base::{Channel, Console, Failed, Inputs, NoMemory, Output, Status, refusal};
-use asm_front::{AsmFault, Main, Options, assemble, synthesis_is_one, written_reads_back};
+use asm_front::{AsmFault, Main, Options, assemble, written_reads_back};
 use elf_object::Object;
 use load_text::{loads_are_bytes, self_load};
 use recovery_laws::objects_recover;
 use run_words::{Invocation, read_command};
+use source_ends::synthesis_is_one;
 use std::alloc::{AllocError, Global};
 
 /// What is said where the words are no command.

@@ -6,8 +6,9 @@ ghost use Rattle.asm_base.specs.Messages.{remarks};
 ghost use Rattle.asm_run.specs.Summary.{layout_lines, summary_by, summary_line, summary_text};
 
 use asm_base::{Bytes, NoMemory, remarks};
-use asm_front::{Assembled, Counts};
+use asm_front::Assembled;
 use itoa::Buffer;
+use source_ends::Counts;
 use std::alloc::Global;
 
 /// What is said of a source with an object.

@@ -16,6 +16,7 @@ placed_by assembler = record {
   stack = assembler.stack.items;
   syntax = assembler.syntax;
   procedures = assembler.procedures;
+  lines = assembler.lines;
   no_warn = assembler.no_warn;
   notes = assembler.notes;
 }

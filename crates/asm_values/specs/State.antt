@@ -19,6 +19,7 @@ use Rattle.asm_values.specs.declared.stacks.Entered.{Entered}
 use Rattle.asm_words.specs.declared.directives.Syntax.{Syntax}
 use Rattle.asm_words.specs.declared.directives.Syntax.TheVariants.{Att}
 use Rattle.cfi_directives.specs.Procedures.{Procedures, no_procedures}
+use Rattle.line_directives.specs.Taking.{LineTable, no_lines}
 use Rattle.x86_insn.specs.declared.amounts.Suffix.{Suffix}
 use Rattle.asm_base.specs.Refusals.{◌>>=◌}
 use Rattle.asm_operands.specs.LayerFaults.{of_sections}
@@ -26,7 +27,7 @@ use Rattle.asm_uses.specs.Tables.{Table, no_table, with_trees}
 use Rattle.asm_uses.specs.Places.{spot_at, known_at}
 
 -- the sections, the symbols, the section that statements put into and the one before it, those that `.popsection` comes back to
--- with the last one at the end, the syntax of instructions, the procedures of frame tables, and the notes; and whether no warning is to be made
+-- with the last one at the end, the syntax of instructions, the procedures of frame tables, the line table, and the notes; and whether no warning is to be made
 pub record Placed : Type 0 where
   pub sections : List LooseSection
   pub table : Table
@@ -35,6 +36,7 @@ pub record Placed : Type 0 where
   pub stack : List Entered
   pub syntax : Syntax
   pub procedures : Procedures
+  pub lines : LineTable
   pub no_warn : Bool
   pub notes : List Noted
 
@@ -48,6 +50,7 @@ nothing_placed no_warn = record {
   stack = [];
   syntax = Att;
   procedures = no_procedures;
+  lines = no_lines;
   no_warn = no_warn;
   notes = [];
 }

@@ -16,6 +16,7 @@ use asm_uses::{SymbolUses, View, here_name, spot_at};
 use asm_words::Syntax;
 use cfi_directives::Directives;
 use item_contents::{Content, Growth};
+use line_directives::Lines;
 use std::alloc::{AllocError, Global};
 use x86_insn::Suffix;
 
@@ -34,6 +35,8 @@ pub struct Assembler {
     pub syntax: Syntax,
     /// The procedures that `.cfi_` directives have made.
     pub procedures: Directives,
+    /// The line table of the `.file` and `.loc` directives.
+    pub lines: Lines,
     /// No warning is to be made.
     pub no_warn: bool,
     /// The warnings so far.
@@ -48,6 +51,7 @@ pub struct Placed {
     pub sections: Sections,
     pub table: SymbolUses,
     pub procedures: Directives,
+    pub lines: Lines,
     pub notes: Notes,
 }
 
@@ -104,23 +108,26 @@ impl Assembler {
             stack: Vec::new(alloc),
             syntax: Syntax::Att,
             procedures: Directives::new(alloc),
+            lines: Lines::new(alloc),
             no_warn,
             notes: Notes::new(alloc),
             scratch: Vec::new(alloc),
         })
     }
 
-    /// The sections, the symbols, the procedures and the notes.
+    /// The sections, the symbols, the procedures, the lines and the notes.
     pub fn into_parts(self) -> Placed
         ensures sections { result.sections ≡ self.sections }
         ensures table { result.table ≡ self.table }
         ensures procedures { result.procedures ≡ self.procedures }
+        ensures lines { result.lines ≡ self.lines }
         ensures notes { result.notes ≡ self.notes }
     {
         let Assembler {
             sections,
             table,
             procedures,
+            lines,
             notes,
             ..
         } = self;
@@ -128,6 +135,7 @@ impl Assembler {
             sections,
             table,
             procedures,
+            lines,
             notes,
         }
     }

@@ -86,7 +86,10 @@ pub enum Directive {
     Comm,
     Lcomm,
     Ident,
+    /// The name of the source, or a file of the line table with its number.
     File,
+    /// A row of the line table.
+    Loc,
     /// A fault, which says its text or has none.
     Error { said: bool },
     /// A warning with its text.
@@ -122,7 +125,7 @@ macro_rules! directives {
 
 /// The names of the GNU as manual, chapter 7, "Assembler Directives".
 #[rattlefmt::skip]
-pub static DIRECTIVES: [DirectiveRow; 68] = directives! {
+pub static DIRECTIVES: [DirectiveRow; 69] = directives! {
     b".byte                   " 5  Directive::Data(FieldSize::One);
     b".long                   " 5  Directive::Data(FieldSize::Four);
     b".quad                   " 5  Directive::Data(FieldSize::Eight);
@@ -191,6 +194,7 @@ pub static DIRECTIVES: [DirectiveRow; 68] = directives! {
     b".cfi_restore            " 12 Directive::Frame(FrameDirective::Restore);
     b".cfi_undefined          " 14 Directive::Frame(FrameDirective::Undefined);
     b".cfi_same_value         " 15 Directive::Frame(FrameDirective::SameValue);
+    b".loc                    " 4  Directive::Loc;
 };
 
 /// The number of the row of each slot, or 255 where no name has the slot.
@@ -209,7 +213,7 @@ pub static DIRECTIVE_SLOTS: [u8; 256] = [
      53,  27,  34, 255, 255,  43, 255, 255, 255, 255,  12, 255, 255, 255,   5, 255,
     255, 255, 255, 255, 255, 255, 255,  11,  29,  55, 255,   4, 255, 255,  40, 255,
     255, 255, 255,  54,  52, 255, 255, 255, 255, 255, 255, 255, 255, 255, 255, 255,
-    255, 255, 255, 255, 255, 255, 255, 255, 255, 255,  61, 255, 255, 255,  33, 255,
+    255, 255, 255, 255, 255, 255, 255, 255, 255, 255,  61, 255, 255,  68,  33, 255,
     255, 255,  56,   6, 255,  44, 255, 255, 255, 255, 255,  50, 255,  23, 255, 255,
     255, 255, 255, 255, 255, 255, 255, 255, 255, 255,   1, 255,  62, 255, 255,  25,
 ];

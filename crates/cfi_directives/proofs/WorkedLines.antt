@@ -1,6 +1,6 @@
 -- The worked directives compute.
 use Rattle.std.proofs.Common.{refl}
-use Rattle.cfi_rows.specs.Written.{uleb_bytes}
+use Rattle.leb128.specs.Digits.{uleb_bytes}
 use Rattle.cfi_directives.specs.WorkedDirectives.{WorkedDirectives}
 
 pub worked : WorkedDirectives

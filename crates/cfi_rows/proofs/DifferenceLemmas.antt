@@ -8,7 +8,7 @@ use Rattle.cfi_rows.specs.declared.rows.Rule.{Rule}
 use Rattle.cfi_rows.specs.declared.rows.Rule.TheVariants.{Unspecified, Undefined, SameValue, Offset, ValueOffset, Register}
 use Rattle.cfi_rows.specs.Rows.{Rows, rows_of, changed, ruled, ops_after}
 use Rattle.cfi_rows.specs.Differences.{cfa_change, same_rule, rule_op, rule_changes, differences, IsReached}
-use Rattle.cfi_rows.proofs.ReadingLemmas.{is_below}
+use Rattle.cfi_rows.proofs.Comparisons.{is_below}
 
 -- the rules from a register on
 at_suc : (n : ℕ) (rules : List Rule) → n < length rules → drop n rules ≡ slice_index_or rules n Unspecified ∷ drop (suc n) rules

@@ -1,6 +1,7 @@
 -- A whole written entry reads back.
 use Rattle.std.proofs.Common.{◌≡◌, ℕ, ◌+◌, ◌*◌, ◌^◌, ◌/◌, ◌%◌, ◌<◌, ◌==◌, ◌&&◌, false, true, length, List, ◌∷◌, None, Some, nat_lt, if◌then◌else◌, refl, ◌∙◌, ap, arith}
 use Rattle.std.specs.Option.{option_and_then}
+use Rattle.leb128.specs.Numbers.{NumbersReadBack}
 use Rattle.cfi_rows.specs.Instructions.{four_bytes_of, extended, nop_or_advance, state_or_cfa}
 use Rattle.cfi_rows.specs.Rows.{common_row}
 use Rattle.cfi_rows.specs.Places.{row_in_force}
@@ -33,10 +34,10 @@ entry_read back first range code some fits =
     ∙ ap (option_and_then (λ first. option_and_then covered (four_bytes_of first.1))) (word_read first (word_then range (0 ∷ code)))
     ∙ ap (option_and_then covered) (word_read range (0 ∷ code))
 
-pub entry_row : (at padding back first range : ℕ) (lines : List Line) → AreLines 0 lines → back < 2 ^ 32 → 0 < back → first < 2 ^ 32 → range < 2 ^ 32
+pub entry_row : (numbers : NumbersReadBack) (at padding back first range : ℕ) (lines : List Line) → AreLines 0 lines → back < 2 ^ 32 → 0 < back → first < 2 ^ 32 → range < 2 ^ 32
     → length (bytes_of padding 0 lines) + 13 < 0xfffffff0
     → row_of common_bytes (entry_bytes back first range (bytes_of padding 0 lines)) at ≡ row_due at range lines
-entry_row at padding back first range lines good back_fits some first_fits range_fits fits =
+entry_row numbers at padding back first range lines good back_fits some first_fits range_fits fits =
     ap (option_and_then (λ initial. option_and_then (row_in_entry initial at) (entry_of (entry_bytes back first range (bytes_of padding 0 lines))))) common_gives
     ∙ ap (option_and_then (row_in_entry common_row at)) (entry_read back first range (bytes_of padding 0 lines) some fits)
-    ∙ ap (λ due. if nat_lt at range then due else None) (written_row common_row at padding lines good)
+    ∙ ap (λ due. if nat_lt at range then due else None) (written_row numbers common_row at padding lines good)

@@ -2,15 +2,16 @@
 use Rattle.std.proofs.Common.{◌≡◌, ℕ, zero, suc, ◌+◌, ◌-◌, ◌*◌, ◌/◌, ◌%◌, ◌^◌, ◌<◌, ◌≤◌, ℤ, pos, negsuc, neg_ℤ, Bool, true, false, ◌==◌, All, length, List, [], ◌∷◌, ◌++◌, Option, None, Some, IsSome, nat_le, nat_lt, ◌&&◌, if◌then◌else◌, refl, sym, subst, arith}
 use Rattle.std.proofs.lemmas.List.Elements.{All-head}
 use Rattle.std.specs.Option.{option_map}
+use Rattle.leb128.specs.Digits.{uleb_bytes, sleb_bytes}
 use Rattle.cfi_rows.specs.declared.rows.CfiOp.{CfiOp}
 use Rattle.cfi_rows.specs.declared.rows.CfiOp.TheVariants.{DefCfa, DefCfaRegister, DefCfaOffset, Set, Restore, Remember, RestoreState}
 use Rattle.cfi_rows.specs.declared.rows.Rule.TheVariants.{Undefined, SameValue, Offset, ValueOffset, Register}
 use Rattle.cfi_rows.specs.declared.rows.Insn.{Insn}
 use Rattle.cfi_rows.specs.declared.rows.Insn.TheVariants.{Nop, Advance, Op}
 use Rattle.cfi_rows.specs.Instructions.{Reader, next, extended, nop_or_advance, register_rule, state_or_cfa, signed_or_value, register_of, plain_of, factored_of, factored_signed_of, byte_of, two_bytes_of, four_bytes_of, one, two}
-use Rattle.cfi_rows.specs.Written.{uleb_bytes, sleb_bytes, slots, cfa_offset, rule_offset, of_register, written}
+use Rattle.cfi_rows.specs.Written.{slots, cfa_offset, rule_offset, of_register, written}
 use Rattle.cfi_rows.proofs.OperandLemmas.{Gives, Anything, IsSmall, IsPlain, IsBelow, IsFactored, more_left, then_gives, map_gives, choose, register_gives, plain_gives, factored_gives, factored_signed_gives, byte_gives, two_bytes_gives, four_bytes_gives}
-use Rattle.cfi_rows.proofs.ReadingLemmas.{is_below}
+use Rattle.cfi_rows.proofs.Comparisons.{is_below}
 
 -- an instruction that changes the row can be written
 abbrev pub IsWritable : Insn → Type 0

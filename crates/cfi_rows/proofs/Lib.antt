@@ -1,7 +1,5 @@
-pub mod ReadingLemmas
-pub mod SignedLemmas
-pub mod LongLemmas
-pub mod SignedLongLemmas
+pub mod Comparisons
+pub mod NumberLemmas
 pub mod RunLemmas
 pub mod PlacedLemmas
 pub mod OperandLemmas
@@ -9,8 +7,6 @@ pub mod FairLemmas
 pub mod PieceLemmas
 pub mod WrittenLemmas
 pub mod EntryLemmas
-pub mod DigitLemmas
-pub mod LeastLemmas
 pub mod DifferenceLemmas
 pub mod RowListLemmas
 pub mod WorkedEntries

@@ -1,7 +1,7 @@
 -- What operands are read as, and that fewer bytes are left.
 use Rattle.std.proofs.Common.{◌≡◌, ℕ, suc, ◌+◌, ◌-◌, ◌*◌, ◌^◌, ◌<◌, ◌≤◌, ℤ, pos, ◌*ℤ◌, ◌-ℤ◌, neg_ℤ, Bool, true, false, length, List, [], ◌∷◌, Option, None, Some, nat_le, nat_lt, int_lt, int_le, ◌&&◌, if◌then◌else◌, refl, arith}
 use Rattle.std.specs.Option.{option_map, option_and_then}
-use Rattle.cfi_rows.specs.Leb128.{uleb, uleb_above, sleb, sleb_above, value_above}
+use Rattle.leb128.specs.Reading.{uleb, uleb_above, sleb, sleb_above, value_above}
 use Rattle.cfi_rows.specs.Instructions.{small, register_of, within, plain_of, times, factored_of, times_signed, factored_signed_of, byte_of, two_bytes_of, four_bytes_of}
 
 -- what is read, if anything, leaves fewer bytes than these, and is such a thing
@@ -49,7 +49,7 @@ uleb_gives (byte ∷ rest) =
     choose Anything (suc (length rest)) (nat_lt byte 128) (Some (byte, rest)) (option_and_then (uleb_above byte) (uleb rest)) (omega arith, tt)
     (then_gives Anything Anything (suc (length rest)) (uleb_above byte) (uleb rest)
     (more_left Anything (length rest) (suc (length rest)) (uleb rest) (omega arith) (uleb_gives rest))
-    (λ above tail shorter is. if_gives Anything (suc (length rest)) (nat_lt above (2 ^ 56)) (byte - 128 + 128 * above) tail shorter (λ _. tt)))
+    (λ above tail shorter is. if_gives Anything (suc (length rest)) (nat_lt above (2 ^ 57)) (byte - 128 + 128 * above) tail shorter (λ _. tt)))
 
 above_gives : (byte : ℕ) (most : ℕ) (tail : List ℕ) (value : Option ℤ) → length tail < most → Gives Anything most (option_map (λ value. (value, tail)) value)
 unfolding Gives

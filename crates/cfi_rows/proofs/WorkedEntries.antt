@@ -2,7 +2,7 @@
 use Rattle.std.proofs.Common.{refl}
 use Rattle.cfi_rows.specs.Instructions.{extended, nop_or_advance, register_rule, state_or_cfa, signed_or_value}
 use Rattle.cfi_rows.specs.Places.{row_in_force}
-use Rattle.cfi_rows.specs.Written.{uleb_bytes, sleb_bytes}
+use Rattle.leb128.specs.Digits.{uleb_bytes, sleb_bytes}
 use Rattle.cfi_rows.specs.WorkedRows.{FrameRows, OtherRows, WorkedDifferences, WrittenBytes}
 
 pub frame_rows : FrameRows

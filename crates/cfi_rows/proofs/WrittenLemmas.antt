@@ -1,6 +1,7 @@
 -- The row in force at a place, read from written lines, is the row after the instructions up to it.
 use Rattle.std.proofs.Common.{◌≡◌, ℕ, zero, suc, ◌+◌, ◌-◌, ◌<◌, ◌≤◌, length, List, [], ◌∷◌, ◌++◌, replicate, Option, None, Some, refl, ◌∙◌, ap, subst, arith}
 use Rattle.std.specs.Option.{option_map, option_and_then}
+use Rattle.leb128.specs.Numbers.{NumbersReadBack}
 use Rattle.cfi_rows.specs.declared.rows.CfaRow.{CfaRow}
 use Rattle.cfi_rows.specs.declared.rows.Insn.{Insn}
 use Rattle.cfi_rows.specs.declared.rows.Insn.TheVariants.{Nop, Advance, Op}
@@ -66,13 +67,13 @@ advance_code in_byte distance insns tail fits code = (tail, in_byte_reads distan
 advance_code in_two distance insns tail fits code = (tail, in_two_reads distance tail, code)
 advance_code in_four distance insns tail fits code = (tail, in_four_reads distance tail, code)
 
-lines_code : (padding here : ℕ) (lines : List Line) → AreLines here lines → AreCodeOf (insns_of padding here lines) (bytes_of padding here lines)
-lines_code padding here [] good = padding_code padding
-lines_code padding here (line ∷ lines) (rises, fits, is_written, good) =
+lines_code : (numbers : NumbersReadBack) (padding here : ℕ) (lines : List Line) → AreLines here lines → AreCodeOf (insns_of padding here lines) (bytes_of padding here lines)
+lines_code numbers padding here [] good = padding_code padding
+lines_code numbers padding here (line ∷ lines) (rises, fits, is_written, good) =
     advance_code line.form (line.place - here) (Op line.op ∷ insns_of padding line.place lines) (line.bytes ++ bytes_of padding line.place lines) fits (
       bytes_of padding line.place lines,
-      written_reads line.op line.bytes (bytes_of padding line.place lines) is_written,
-      lines_code padding line.place lines good,
+      written_reads numbers line.op line.bytes (bytes_of padding line.place lines) is_written,
+      lines_code numbers padding line.place lines good,
     )
 
 padding_placed : (padding here : ℕ) → placed here (replicate padding Nop) ≡ []
@@ -94,10 +95,10 @@ lines_placed padding here (line ∷ lines) (rises, fits, is_written, good) =
     ∙ ap (λ ops. (line.place, line.op) ∷ ops) (lines_placed padding line.place lines good)
 
 -- the row in force, read from written lines, is the row after those up to the place
-pub written_row : (initial : CfaRow) (at padding : ℕ) (lines : List Line) → AreLines 0 lines
+pub written_row : (numbers : NumbersReadBack) (initial : CfaRow) (at padding : ℕ) (lines : List Line) → AreLines 0 lines
     → row_in_force initial at (bytes_of padding 0 lines) ≡ row_after initial at (ops_of lines) (start_rows initial)
 unfolding row_in_force
-written_row initial at padding lines good =
+written_row numbers initial at padding lines good =
     ap (option_and_then (λ insns. row_after initial at (placed 0 insns) (start_rows initial)))
-    (decoded_code (length (bytes_of padding 0 lines)) (insns_of padding 0 lines) (bytes_of padding 0 lines) (lines_code padding 0 lines good) (omega arith))
+    (decoded_code (length (bytes_of padding 0 lines)) (insns_of padding 0 lines) (bytes_of padding 0 lines) (lines_code numbers padding 0 lines good) (omega arith))
     ∙ ap (λ ops. row_after initial at ops (start_rows initial)) (lines_placed padding 0 lines good)

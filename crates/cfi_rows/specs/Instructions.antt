@@ -5,7 +5,7 @@ use Rattle.cfi_rows.specs.declared.rows.CfiOp.TheVariants.{DefCfa, DefCfaRegiste
 use Rattle.cfi_rows.specs.declared.rows.Rule.TheVariants.{Undefined, SameValue, Offset, ValueOffset, Register}
 use Rattle.cfi_rows.specs.declared.rows.Insn.{Insn}
 use Rattle.cfi_rows.specs.declared.rows.Insn.TheVariants.{Nop, Advance, Op}
-use Rattle.cfi_rows.specs.Leb128.{uleb, sleb}
+use Rattle.leb128.specs.Reading.{uleb, sleb}
 
 -- what the bytes begin with, and what follows it
 abbrev pub Reader : Type 0 → Type 0
@@ -19,7 +19,7 @@ small (number, rest) = if nat_lt number 64 then Some (number, rest) else None
 abbrev pub register_of : Reader ℕ
 register_of bytes = option_and_then small (uleb bytes)
 
--- an offset that is not factored, below 2 ^ 63: so is all that `uleb` reads, and none is refused here
+-- an offset that is not factored, below 2 ^ 63
 abbrev pub within : ℕ × List ℕ → Option (ℤ × List ℕ)
 within (number, rest) = if nat_lt number (2 ^ 63) then Some (pos number, rest) else None
 

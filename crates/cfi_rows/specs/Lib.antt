@@ -1,10 +1,8 @@
 pub mod Rows
-pub mod Leb128
 pub mod Instructions
 pub mod Places
 pub mod Entries
 pub mod Walks
-pub mod Room
 pub mod Written
 pub mod Lines
 pub mod Differences

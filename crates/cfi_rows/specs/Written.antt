@@ -1,35 +1,11 @@
 -- The bytes that instructions are written as (DWARF 5, sections 6.4.2 and 7.24), with a code alignment of 1 and a data alignment of -8.
 use Rattle.std.specs.Prelude.{ℕ, zero, suc, ◌+◌, ◌-◌, ◌/◌, ◌%◌, ◌^◌, ℤ, pos, negsuc, neg_ℤ, List, [], ◌∷◌, ◌++◌, Option, None, Some, nat_lt, nat_le, ◌==◌, ◌&&◌, if◌then◌else◌}
 use Rattle.std.specs.Option.{option_map}
+use Rattle.leb128.specs.Digits.{uleb_bytes, sleb_bytes}
 use Rattle.cfi_rows.specs.declared.rows.CfiOp.{CfiOp}
 use Rattle.cfi_rows.specs.declared.rows.CfiOp.TheVariants.{DefCfa, DefCfaRegister, DefCfaOffset, Set, Restore, Remember, RestoreState}
 use Rattle.cfi_rows.specs.declared.rows.Rule.{Rule}
 use Rattle.cfi_rows.specs.declared.rows.Rule.TheVariants.{Unspecified, Undefined, SameValue, Offset, ValueOffset, Register}
-
--- a number in seven bits a byte, in at most one byte more than the first number says
-abbrev pub uleb_digits : ℕ → ℕ → List ℕ
-uleb_digits zero number = number ∷ []
-uleb_digits (suc more) number = if nat_lt number 128 then number ∷ [] else (128 + number % 128) ∷ uleb_digits more (number / 128)
-
--- an unsigned number below 2 ^ 63, in as few bytes as hold it
-unfoldable pub uleb_bytes : ℕ → List ℕ
-uleb_bytes number = uleb_digits 8 number
-
--- a number that is not below 0, with bit 6 of the last byte clear
-abbrev pub sleb_digits : ℕ → ℕ → List ℕ
-sleb_digits zero number = number ∷ []
-sleb_digits (suc more) number = if nat_lt number 64 then number ∷ [] else (128 + number % 128) ∷ sleb_digits more (number / 128)
-
--- the number below 0 that is -1 less this number, with bit 6 of the last byte set
-abbrev pub sleb_digits_below : ℕ → ℕ → List ℕ
-sleb_digits_below zero number = (127 - number) ∷ []
-sleb_digits_below (suc more) number =
-    if nat_lt number 64 then (127 - number) ∷ [] else (255 - number % 128) ∷ sleb_digits_below more (number / 128)
-
--- a signed number within -2 ^ 63 to 2 ^ 63 - 1, in as few bytes as hold it
-unfoldable pub sleb_bytes : ℤ → List ℕ
-sleb_bytes (pos number) = sleb_digits 9 number
-sleb_bytes (negsuc number) = sleb_digits_below 9 number
 
 -- a distance of at most so many bytes over 8, if it's a multiple
 abbrev pub slots : ℕ → ℕ → Option ℕ

@@ -1,6 +1,8 @@
 //! What the definitions come to.
 
 ghost use Rattle.std.specs.Prelude.{◌≡◌, ◌+◌, ◌^◌, ◌<◌, ◌≤◌, ◌++◌, ℕ, ℤ, pos, neg_ℤ, ◌≤ℤ◌, ◌<ℤ◌, List, All, IsSome, length, slice_get, Some};
+ghost use Rattle.leb128.specs.Digits.{sleb_bytes, uleb_bytes};
+ghost use Rattle.leb128.specs.Reading.{sleb, uleb};
 ghost use Rattle.cfi_rows.specs.declared.rows.CfaRow.{CfaRow};
 ghost use Rattle.cfi_rows.specs.declared.rows.CfiOp.{CfiOp};
 ghost use Rattle.cfi_rows.specs.declared.rows.Insn.{Insn};
@@ -9,12 +11,13 @@ ghost use Rattle.cfi_rows.specs.Rows.{common_row, ops_after, rows_of, start_rows
 ghost use Rattle.cfi_rows.specs.Instructions.{next};
 ghost use Rattle.cfi_rows.specs.Places.{AreCodeOf, decoded, Placed, row_after, row_in_force};
 ghost use Rattle.cfi_rows.specs.Entries.{common_bytes, initial_row, row_of};
-ghost use Rattle.cfi_rows.specs.Leb128.{sleb, uleb};
-ghost use Rattle.cfi_rows.specs.Written.{sleb_bytes, uleb_bytes, written};
+ghost use Rattle.cfi_rows.specs.Written.{written};
 ghost use Rattle.cfi_rows.specs.Lines.{Line, AreLines, bytes_of, ops_of, entry_bytes, row_due};
 ghost use Rattle.cfi_rows.specs.Differences.{differences, IsReached, HaveForms};
 ghost use Rattle.cfi_rows.specs.RowLists.{RowPlace, AreRising, Leads, row_at_place};
 ghost use Rattle.cfi_rows.specs.WorkedRows.{FrameRows, OtherRows, WorkedDifferences, WrittenBytes};
+
+use leb128::numbers_read_back;
 
 /// Bytes decode to the instructions that stand in them one behind the other, and to no others.
 #[tactic(auto, using(crate::proofs::WrittenLemmas::decoded_code, crate::proofs::WrittenLemmas::code_decoded))]
@@ -26,13 +29,15 @@ pub fn instructions_stand_in_row()
 {}
 
 /// An instruction that is written reads back, whatever follows it. It is written exactly if some bytes read as it.
-#[tactic(auto, using(crate::proofs::PieceLemmas::written_reads, crate::proofs::FairLemmas::read_is_writable))]
+#[tactic(auto, using(crate::proofs::FairLemmas::read_is_writable))]
 pub fn instructions_read_back()
     ensures read { (op : CfiOp) (bytes rest : List ℕ) → written op ≡ Some bytes
         → next (bytes ++ rest) ≡ Some (Op op, rest) }
     ensures written { (op : CfiOp) (bytes rest : List ℕ) → All (λ byte. byte < 2 ^ 8) bytes
         → next bytes ≡ Some (Op op, rest) → IsSome (written op) }
-{}
+{
+    numbers_read_back();
+}
 
 /// A number is written in as few bytes as hold it: it reads back, and no bytes that read as it are fewer. Those that stand
 /// behind a number, `rest`, are none of it.
@@ -47,19 +52,23 @@ pub fn numbers_are_least()
     ensures signed { (number : ℤ) (bytes rest : List ℕ) → All (λ byte. byte < 2 ^ 8) bytes
         → sleb bytes ≡ Some (number, rest)
         → length (sleb_bytes number) + length rest ≤ length bytes }
-{}
+{
+    numbers_read_back();
+    leb128::numbers_are_least();
+}
 
 /// Written instructions, whatever room each advance has and whatever padding follows, read as the row after all those
 /// up to a place.
-#[tactic(auto, using(crate::proofs::WrittenLemmas::written_row))]
 pub fn rows_read_back()
     ensures { (initial : CfaRow) (at padding : ℕ) (lines : List Line) → AreLines 0 lines
         → row_in_force initial at (bytes_of padding 0 lines)
         ≡ row_after initial at (ops_of lines) (start_rows initial) }
-{}
+{
+    numbers_read_back();
+}
 
 /// The same of a whole entry below its range; the common entry gives the row where a procedure begins.
-#[tactic(auto, using(crate::proofs::EntryLemmas::entry_row, crate::proofs::EntryLemmas::common_gives))]
+#[tactic(auto, using(crate::proofs::EntryLemmas::common_gives))]
 pub fn entries_read_back()
     ensures entry { (at padding back first range : ℕ) (lines : List Line) → AreLines 0 lines
         → back < 2 ^ 32 → 0 < back → first < 2 ^ 32 → range < 2 ^ 32
@@ -67,7 +76,9 @@ pub fn entries_read_back()
         → row_of common_bytes (entry_bytes back first range (bytes_of padding 0 lines)) at
         ≡ row_due at range lines }
     ensures common { initial_row common_bytes ≡ Some common_row }
-{}
+{
+    numbers_read_back();
+}
 
 /// The instructions of `diff` make of the first row the second, whatever is remembered: where both have a rule for each
 /// of 64 registers, and a register that is unspecified in the second is so in the first, or where the procedure begins.

@@ -3,11 +3,9 @@
 
 mod changing;
 mod differences;
-mod digits;
 mod entries;
 mod instructions;
 mod laws;
-mod leb128;
 mod operands;
 mod rows;
 mod running;

@@ -4,14 +4,14 @@ ghost use Rattle.std.specs.Prelude.{◌≡◌, ◌<◌, IfSome, length};
 ghost use Rattle.std.specs.Option.{option_map};
 ghost use Rattle.cfi_rows.specs.Instructions.{register_of, factored_of, factored_signed_of, plain_of, byte_of, two_bytes_of, four_bytes_of};
 
-use crate::leb128::{signed, unsigned};
+use leb128::{read_signed, read_unsigned};
 
 /// A register of 0 to 63.
 pub fn register(bytes: &[u8]) -> Option<(u8, &[u8])>
     ensures value { option_map (λ r. (r.0, r.1.now)) result ≡ register_of bytes.now }
     ensures shorter { IfSome result (λ r. length r.1.now < length bytes.now) }
 {
-    let (number, rest) = unsigned(bytes)?;
+    let (number, rest) = read_unsigned(bytes)?;
     if number < 64 {
         Some((number as u8, rest))
     } else {
@@ -24,7 +24,7 @@ pub fn plain(bytes: &[u8]) -> Option<(i64, &[u8])>
     ensures value { option_map (λ r. (r.0, r.1.now)) result ≡ plain_of bytes.now }
     ensures shorter { IfSome result (λ r. length r.1.now < length bytes.now) }
 {
-    let (number, rest) = unsigned(bytes)?;
+    let (number, rest) = read_unsigned(bytes)?;
     if number < 1 << 63 {
         Some((number as i64, rest))
     } else {
@@ -37,7 +37,7 @@ pub fn factored(bytes: &[u8]) -> Option<(i64, &[u8])>
     ensures value { option_map (λ r. (r.0, r.1.now)) result ≡ factored_of bytes.now }
     ensures shorter { IfSome result (λ r. length r.1.now < length bytes.now) }
 {
-    let (number, rest) = unsigned(bytes)?;
+    let (number, rest) = read_unsigned(bytes)?;
     if number <= 1 << 60 {
         Some((number as i64 * -8, rest))
     } else {
@@ -50,7 +50,7 @@ pub fn factored_signed(bytes: &[u8]) -> Option<(i64, &[u8])>
     ensures value { option_map (λ r. (r.0, r.1.now)) result ≡ factored_signed_of bytes.now }
     ensures shorter { IfSome result (λ r. length r.1.now < length bytes.now) }
 {
-    let (number, rest) = signed(bytes)?;
+    let (number, rest) = read_signed(bytes)?;
     if -(1 << 60) < number && number <= 1 << 60 {
         Some((number * -8, rest))
     } else {

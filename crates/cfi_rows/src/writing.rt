@@ -5,9 +5,9 @@ ghost use Rattle.std.specs.Option.{option_map};
 ghost use Rattle.arrayvec.specs.ArrayVec.{array_vec_len};
 ghost use Rattle.cfi_rows.specs.Written as spec;
 
-use crate::digits::{push_signed, push_unsigned};
 use crate::rows::{CfiBytes, CfiOp, Rule};
 use arrayvec::ArrayVec;
+use leb128::{push_signed, push_unsigned};
 
 /// A code alone.
 fn code_alone(code: u8) -> CfiBytes

@@ -208,6 +208,7 @@ module _ (facts : Facts) (symbols : SymbolMap) (laid : LaidSections) (s : TokenS
   directed directive.Lcomm kind due = data_by _ bss due
   directed directive.Ident kind due = moved_by (section_number (codes ".comment") before.sections) due
   directed directive.File kind due = absurd (none-some put due)
+  directed directive.Loc kind due = absurd (none-some put due)
   directed (directive.Error said) kind due = absurd (none-some put due)
   directed directive.Warning kind due = absurd (none-some put due)
   directed (directive.Syntax syntax) kind due = absurd (none-some put due)

@@ -143,6 +143,7 @@ module _ (facts : Facts) (s : TokenStatement) (before placed : Placed) (number :
   directed directive.Lcomm due = data_by _ bss due
   directed directive.Ident due = moved_by (section_number (codes ".comment") before.sections) due
   directed directive.File due = none-some put due
+  directed directive.Loc due = none-some put due
   directed (directive.Error said) due = none-some put due
   directed directive.Warning due = none-some put due
   directed (directive.Syntax syntax) due = none-some put due

@@ -123,6 +123,7 @@ no_frame (body.Directed (Some found)) pos tokens there after put is = by found i
     by directive.Lcomm is = refl
     by directive.Ident is = refl
     by directive.File is = refl
+    by directive.Loc is = refl
     by (directive.Error said) is = refl
     by directive.Warning is = refl
     by (directive.Syntax syntax) is = refl

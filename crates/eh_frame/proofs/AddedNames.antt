@@ -19,14 +19,13 @@ use Rattle.asm_symbols.specs.Interning.{name_size, names_size}
 use Rattle.asm_symbols.specs.SymbolMap.{SymbolMap, names}
 use Rattle.cfi_directives.specs.declared.frames.Frame.{Frame}
 use Rattle.eh_frame.specs.Additions.{section_names, AddsLittle, TablesAddLittle}
-use Rattle.eh_frame.specs.Labels.{IsLabelAt, GetsLabels}
-use Rattle.eh_frame.specs.Marks.{place_name}
-use Rattle.eh_frame.specs.Pieces.{Tables, tables_of}
+use Rattle.table_pieces.specs.Labels.{IsLabelAt, GetsLabels}
+use Rattle.table_pieces.specs.Marks.{place_name}
+use Rattle.table_pieces.specs.Pieces.{Tables, tables_of}
+use Rattle.table_pieces.specs.Standing.{OneExtends}
 use Rattle.eh_frame.specs.Placing.{new_table, table_put, placed_there, placed_in, placed}
-use Rattle.eh_frame.specs.Standing.{OneExtends}
-use Rattle.eh_frame.proofs.ExtendLemmas.{table_extends}
-use Rattle.eh_frame.proofs.NamedPlaces.{label_same, table_gets}
-use Rattle.eh_frame.proofs.TableLemmas.{each_extends}
+use Rattle.eh_frame.proofs.PieceFacts.{Extending, Naming}
+use Rattle.eh_frame.proofs.TableSteps.{table_extends, table_gets}
 
 -- SYMBOLS
 
@@ -75,12 +74,6 @@ same_names (held ∷ before) (now ∷ after) long keep =
     same_names before after (omega (arith, long)) (λ number there is. keep (suc number) there is) in
     ap (λ (own : List ℕ). own ∷ section_names after) name ∙ ap (λ (own : List (List ℕ)). held.name ∷ own) rest
 
--- one that is extended keeps its name
-extended_names : (section : ℕ) (before after : List LooseSection) → OneExtends section before after → section_names after ≡ section_names before
-extended_names section before after extends =
-    same_names before after extends.count
-    (λ number held there. let now = each_extends section before after extends number held there in (now.0, now.1, now.2.name))
-
 -- TABLES
 
 -- what is known of the names of sections, and of symbols, is all
@@ -95,47 +88,54 @@ adds_by before after named gets = record {
   size = same_size before.symbols after.symbols gets;
 }
 
--- a table in a section that is there
-put_there : (section : ℕ) (pos : Pos) (frames : List Frame) (tables : Tables) → AddsLittle tables (table_put section pos frames tables)
-put_there section pos frames tables =
-    adds_by tables (table_put section pos frames tables)
-    (inl (extended_names section tables.sections (table_put section pos frames tables).sections (table_extends section pos frames tables)))
-    (table_gets section pos frames tables)
+module _ (extending : Extending) (naming : Naming) where
+  -- one that is extended keeps its name
+  extended_names : (section : ℕ) (before after : List LooseSection) → OneExtends section before after → section_names after ≡ section_names before
+  extended_names section before after extends =
+      same_names before after extends.count
+      (λ number held there. let now = extending.extensions.all section before after extends number held there in (now.0, now.1, now.2.name))
 
--- and in a new one
-put_new : (section : ℕ) (pos : Pos) (frames : List Frame) (tables : Tables)
-    → AddsLittle tables (table_put section pos frames (tables_of tables.symbols (tables.sections ++ new_table ∷ [])))
-put_new section pos frames tables =
-    let more = tables_of tables.symbols (tables.sections ++ new_table ∷ []) in
-    let put = table_put section pos frames more in
-    adds_by tables put
-    (inr (extended_names section more.sections put.sections (table_extends section pos frames more)
-    ∙ map-append (λ (section : LooseSection). section.name) tables.sections (new_table ∷ [])))
-    (table_gets section pos frames more)
+  -- a table in a section that is there
+  put_there : (section : ℕ) (pos : Pos) (frames : List Frame) (tables : Tables) → AddsLittle tables (table_put section pos frames tables)
+  put_there section pos frames tables =
+      adds_by tables (table_put section pos frames tables)
+      (inl (extended_names section tables.sections (table_put section pos frames tables).sections (table_extends extending section pos frames tables)))
+      (table_gets naming section pos frames tables)
 
--- unless its section takes zeros alone
-by_zeros : (section : ℕ) (zeros : Bool) (pos : Pos) (frames : List Frame) (tables : Tables)
-    → (let answer : Result Tables FragCause = if zeros then Err BadSection else Ok (table_put section pos frames tables) in IfOk answer (AddsLittle tables))
-by_zeros section true pos frames tables = tt
-by_zeros section false pos frames tables = put_there section pos frames tables
+  -- and in a new one
+  put_new : (section : ℕ) (pos : Pos) (frames : List Frame) (tables : Tables)
+      → AddsLittle tables (table_put section pos frames (tables_of tables.symbols (tables.sections ++ new_table ∷ [])))
+  put_new section pos frames tables =
+      let more = tables_of tables.symbols (tables.sections ++ new_table ∷ []) in
+      let put = table_put section pos frames more in
+      adds_by tables put
+      (inr (extended_names section more.sections put.sections (table_extends extending section pos frames more)
+      ∙ map-append (λ (section : LooseSection). section.name) tables.sections (new_table ∷ [])))
+      (table_gets naming section pos frames more)
 
--- by the section that there is
-by_section : (section : ℕ) (found : Option LooseSection) (pos : Pos) (frames : List Frame) (tables : Tables)
-    → IfOk (placed_there section found pos frames tables) (AddsLittle tables)
-by_section section None pos frames tables = tt
-by_section section (Some held) pos frames tables = by_zeros section (takes_zeros_alone held) pos frames tables
+  -- unless its section takes zeros alone
+  by_zeros : (section : ℕ) (zeros : Bool) (pos : Pos) (frames : List Frame) (tables : Tables)
+      → (let answer : Result Tables FragCause = if zeros then Err BadSection else Ok (table_put section pos frames tables) in IfOk answer (AddsLittle tables))
+  by_zeros section true pos frames tables = tt
+  by_zeros section false pos frames tables = put_there section pos frames tables
 
--- by its number
-by_number : (found : Option ℕ) (pos : Pos) (frames : List Frame) (tables : Tables) → IfOk (placed_in found pos frames tables) (AddsLittle tables)
-by_number None pos frames tables = put_new (length tables.sections) pos frames tables
-by_number (Some section) pos frames tables = by_section section (slice_get tables.sections section) pos frames tables
+  -- by the section that there is
+  by_section : (section : ℕ) (found : Option LooseSection) (pos : Pos) (frames : List Frame) (tables : Tables)
+      → IfOk (placed_there section found pos frames tables) (AddsLittle tables)
+  by_section section None pos frames tables = tt
+  by_section section (Some held) pos frames tables = by_zeros section (takes_zeros_alone held) pos frames tables
 
--- whatever the procedures are
-by_frames : (frames : List Frame) (tables : Tables) → IfOk (placed frames tables) (AddsLittle tables)
-unfolding placed
-by_frames [] tables = adds_by tables tables (inl refl) (label_same tables.symbols)
-by_frames (frame ∷ frames) tables = by_number (section_number (codes ".eh_frame") tables.sections) frame.pos (frame ∷ frames) tables
+  -- by its number
+  by_number : (found : Option ℕ) (pos : Pos) (frames : List Frame) (tables : Tables) → IfOk (placed_in found pos frames tables) (AddsLittle tables)
+  by_number None pos frames tables = put_new (length tables.sections) pos frames tables
+  by_number (Some section) pos frames tables = by_section section (slice_get tables.sections section) pos frames tables
 
--- so it is of each that is placed
-pub tables_add_little : TablesAddLittle
-tables_add_little frames tables after is = IfOk-at_ok (AddsLittle tables) is (by_frames frames tables)
+  -- whatever the procedures are
+  by_frames : (frames : List Frame) (tables : Tables) → IfOk (placed frames tables) (AddsLittle tables)
+  unfolding placed
+  by_frames [] tables = adds_by tables tables (inl refl) (naming.same tables.symbols)
+  by_frames (frame ∷ frames) tables = by_number (section_number (codes ".eh_frame") tables.sections) frame.pos (frame ∷ frames) tables
+
+  -- so it is of each that is placed
+  pub tables_add_little : TablesAddLittle
+  tables_add_little frames tables after is = IfOk-at_ok (AddsLittle tables) is (by_frames frames tables)

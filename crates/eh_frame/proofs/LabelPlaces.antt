@@ -1,5 +1,5 @@
 -- The places of the labels that a table brings stand in its sections.
-use Rattle.std.proofs.Common.{◌≡◌, ℕ, ◌+◌, ◌<◌, ◌^◌, ◌-◌, inl, inr, Bool, true, false, List, [], ◌∷◌, ◌++◌, length, Option, None, Some, Ok, get_or, refl, sym, ap, subst, ◌∙◌, ◌==◌, arith, append-nil, append_assoc, length-append}
+use Rattle.std.proofs.Common.{◌≡◌, ℕ, ◌<◌, ◌^◌, ◌-◌, inl, inr, Bool, true, false, List, [], ◌∷◌, ◌++◌, length, Option, None, Some, Ok, get_or, refl, sym, ap, subst, ◌∙◌, ◌==◌, arith}
 use Rattle.std.specs.Prelude.{All, IsSomeAnd}
 use Rattle.std.specs.List.{slice_get}
 use Rattle.std.specs.Option.{option_map_or}
@@ -7,105 +7,51 @@ use Rattle.std.proofs.lemmas.List.Elements.{All-nil, All-cons, All-head, All-tai
 use Rattle.std.proofs.lemmas.Option.{slice_get-get_or, slice_get_within, get_or_from_slice_get}
 use Rattle.asm_base.specs.declared.positions.Pos.{Pos}
 use Rattle.asm_frags.specs.Writing.{LooseSection, ends_in_run}
-use Rattle.asm_symbols.specs.SymbolMap.{SymbolMap, names, index_of}
+use Rattle.asm_symbols.specs.SymbolMap.{SymbolMap}
 use Rattle.cfi_directives.specs.declared.frames.Frame.{Frame}
 use Rattle.cfi_directives.specs.declared.frames.PlacedOp.{PlacedOp}
 use Rattle.asm_base.specs.declared.places.Place.{Place}
 use Rattle.asm_base.specs.declared.places.SectionPlace.{SectionPlace}
 use Rattle.cfi_rows.specs.Entries.{common_bytes}
-use Rattle.eh_frame.specs.declared.ends.SectionEnd.{SectionEnd}
-use Rattle.eh_frame.specs.declared.marks.Distance.{Distance}
-use Rattle.eh_frame.specs.declared.marks.Mark.{Mark}
-use Rattle.eh_frame.specs.declared.marks.Mark.TheVariants.{Here, At}
-use Rattle.eh_frame.specs.Marks.{place_name, spot_of, label_symbol, with_label_by, with_label, with_mark, with_marks}
-use Rattle.eh_frame.specs.Pieces as piece
-use Rattle.eh_frame.specs.Pieces.{Piece, Tables, tables_of, from_here, piece_put, pieces_put}
-use Rattle.eh_frame.specs.Entries.{behind_plain, behind_pieces, end_place, advance_piece, op_pieces, counted_pieces, entry_pieces}
-use Rattle.eh_frame.specs.Placing.{padded_log, entries_put, run_end, no_end, end_of, table_put, new_table, placed}
-use Rattle.eh_frame.specs.Standing.{OneExtends, HasEnd, Reaches}
-use Rattle.section_laws.specs.Within.{IsWithin, PutsStayWithin}
-use Rattle.eh_frame.specs.Found.{IsReadyAt, IsReady, IsPlaced}
-use Rattle.eh_frame.specs.StandingPlaces.{HoldsItems, FrameStands, LabelStands, GetsStanding}
-use Rattle.eh_frame.proofs.ExtendLemmas.{one_same, one_on, entries_extend, table_extends}
-use Rattle.eh_frame.proofs.EndLemmas.{piece_reaches, pieces_reach}
-use Rattle.eh_frame.proofs.FoundLemmas.{piece_puts}
-use Rattle.eh_frame.proofs.TableLemmas.{end_is, new_low, get_first, each_extends, is_placed}
+use Rattle.table_pieces.specs.declared.ends.SectionEnd.{SectionEnd}
+use Rattle.table_pieces.specs.declared.marks.Mark.TheVariants.{Here, At}
+use Rattle.table_pieces.specs.Pieces as piece
+use Rattle.table_pieces.specs.Pieces.{Piece, Tables, tables_of, piece_put, pieces_put}
+use Rattle.table_pieces.specs.Ends.{behind_plain, behind_pieces, end_place, run_end, no_end, end_of}
+use Rattle.table_pieces.specs.Standing.{OneExtends, HasEnd, Reaches}
+use Rattle.section_laws.specs.Within.{IsWithin}
+use Rattle.table_pieces.specs.Found.{IsReadyAt, IsReady}
+use Rattle.table_pieces.specs.Ready.{SectionsKeepPlaces}
+use Rattle.table_pieces.specs.StandingPlaces.{HoldsItems, GetsStanding, PlacesStand, AllPlacesStand, PiecesBringStanding}
+use Rattle.eh_frame.specs.Entries.{advance_piece, op_pieces, counted_pieces, entry_pieces}
+use Rattle.eh_frame.specs.Placing.{padded_log, entries_put, table_put, new_table, placed}
+use Rattle.eh_frame.specs.FoundTables.{IsPlaced}
+use Rattle.eh_frame.specs.StandingFrames.{FrameStands}
+use Rattle.eh_frame.proofs.PieceFacts.{Extending, Finding, Reaching}
+use Rattle.eh_frame.proofs.TableSteps.{entries_extend, table_extends}
+use Rattle.eh_frame.proofs.TableLemmas.{end_is, new_low, get_first, is_placed}
+
+-- what is known of pieces, and of sections and labels that stand
+pub record StandingFacts : Type 0 where
+  pub extending : Extending
+  pub finding : Finding
+  pub reaching : Reaching
+  pub standing : PiecesBringStanding
+  pub keeping : SectionsKeepPlaces
 
 -- what stands in sections stands there when one is extended
-items_grow : (section : ℕ) (before after : List LooseSection) → OneExtends section before after → (number items : ℕ) → HoldsItems before number items → HoldsItems after number items
-items_grow section before after extends number items has =
-    let now = each_extends section before after extends number has.held has.there in
-    let longer : length now.0.items ≡ length has.held.items + length now.2.items = ap length now.2.all_items ∙ length-append has.held.items now.2.items in
-    record { held = now.0; there = now.1; enough = let enough = has.enough in omega (arith, longer, enough) }
+items_grow : StandingFacts → (section : ℕ) (before after : List LooseSection) → OneExtends section before after → (number items : ℕ) → HoldsItems before number items
+    → HoldsItems after number items
+items_grow facts section before after extends number items has = facts.keeping.items before after number items (facts.extending.extensions.all section before after extends) has
 
-module _ (sections : List LooseSection) where
-  standing_same : (map : SymbolMap) → GetsStanding sections map map
-  standing_same map = record { labels = []; all = sym (append-nil map.symbols); each = All-nil (LabelStands sections) }
-
-  standing_on : (before middle after : SymbolMap) → GetsStanding sections before middle → GetsStanding sections middle after → GetsStanding sections before after
-  standing_on before middle after one other = record {
-    labels = one.labels ++ other.labels;
-    all = other.all ∙ ap (λ all. all ++ other.labels) one.all ∙ append_assoc before.symbols one.labels other.labels;
-    each = All-append (LabelStands sections) one.labels other.labels one.each other.each;
-  }
-
-  standing_by : (found : Option ℕ) (map : SymbolMap) (at : SectionPlace) → HoldsItems sections at.section at.place.item → GetsStanding sections map (with_label_by found map at)
-  standing_by (Some number) map at has = standing_same map
-  standing_by None map at has = record {
-    labels = label_symbol at (length map.symbols) ∷ [];
-    all = refl;
-    each = All-cons (LabelStands sections) (label_symbol at (length map.symbols)) [] (spot_of at (length map.symbols), refl, has) (All-nil (LabelStands sections));
-  }
-
-  label_stands : (map : SymbolMap) (at : SectionPlace) → HoldsItems sections at.section at.place.item → GetsStanding sections map (with_label map at)
-  unfolding with_label
-  label_stands map at has = standing_by (index_of (place_name at) (names map.symbols)) map at has
-
-  -- the place of a mark stands
-  abbrev MarkStands : Mark → Type 0
-  MarkStands Here = Unit {0}
-  MarkStands (At at) = HoldsItems sections at.section at.place.item
-
-  mark_stands : (map : SymbolMap) (mark : Mark) → MarkStands mark → GetsStanding sections map (with_mark map mark)
-  mark_stands map Here stands = standing_same map
-  mark_stands map (At at) stands = label_stands map at stands
-
-  marks_stand : (map : SymbolMap) (distance : Distance) → MarkStands distance.to → MarkStands distance.from → GetsStanding sections map (with_marks map distance)
-  marks_stand map distance to from =
-      standing_on map (with_mark map distance.to) (with_marks map distance) (mark_stands map distance.to to) (mark_stands (with_mark map distance.to) distance.from from)
-
-  -- the places of a piece stand
-  abbrev PieceIs : Piece → Type 0
-  PieceIs (piece.plain bytes) = Unit {0}
-  PieceIs (piece.number distance) = MarkStands distance.to × MarkStands distance.from
-  PieceIs (piece.pointer place) = HoldsItems sections place.section place.place.item
-  PieceIs (piece.advance distance) = MarkStands distance.to × MarkStands distance.from
-  PieceIs (piece.padding log) = Unit {0}
-
-  abbrev PiecesAre : List Piece → Type 0
-  PiecesAre [] = Unit {0}
-  PiecesAre (one ∷ pieces) = PieceIs one × PiecesAre pieces
-
-  piece_stands : (section : ℕ) (pos : Pos) (one : Piece) (tables : Tables) → PieceIs one → GetsStanding sections tables.symbols (piece_put section pos one tables).symbols
-  piece_stands section pos (piece.plain bytes) tables stands = standing_same tables.symbols
-  piece_stands section pos (piece.number distance) tables stands = marks_stand tables.symbols distance stands.0 stands.1
-  piece_stands section pos (piece.pointer place) tables stands = marks_stand tables.symbols (from_here place) stands tt
-  piece_stands section pos (piece.advance distance) tables stands = marks_stand tables.symbols distance stands.0 stands.1
-  piece_stands section pos (piece.padding log) tables stands = standing_same tables.symbols
-
-  pieces_stand : (section : ℕ) (pos : Pos) (pieces : List Piece) (tables : Tables) → PiecesAre pieces → GetsStanding sections tables.symbols (pieces_put section pos pieces tables).symbols
-  pieces_stand section pos [] tables stands = standing_same tables.symbols
-  pieces_stand section pos (one ∷ pieces) tables stands =
-      standing_on tables.symbols (piece_put section pos one tables).symbols (pieces_put section pos pieces (piece_put section pos one tables)).symbols
-      (piece_stands section pos one tables stands.0) (pieces_stand section pos pieces (piece_put section pos one tables) stands.1)
-
+module _ (facts : StandingFacts) (sections : List LooseSection) where
   advance_is : (same : Bool) (section : ℕ) (last place : Place) → HoldsItems sections section last.item → HoldsItems sections section place.item
-      → PieceIs (advance_piece same section last place)
+      → PlacesStand sections (advance_piece same section last place)
   advance_is true section last place one other = tt
   advance_is false section last place one other = (other, one)
 
   ops_are : (section log : ℕ) (last : Place) (ops : List PlacedOp) → HoldsItems sections section last.item → All (λ placed. HoldsItems sections section placed.place.item) ops
-      → PiecesAre (op_pieces section log last ops)
+      → AllPlacesStand sections (op_pieces section log last ops)
   ops_are section log last [] one all = (tt, tt)
   ops_are section log last (op ∷ ops) one all =
       let own = All-head (λ (placed : PlacedOp). HoldsItems sections section placed.place.item) op ops all in (
@@ -114,7 +60,7 @@ module _ (sections : List LooseSection) where
       )
 
   entry_is : (common end : SectionPlace) (log : ℕ) (frame : Frame) → HoldsItems sections common.section common.place.item → HoldsItems sections end.section end.place.item
-      → FrameStands sections frame → PiecesAre (piece.number (record { to = At end; from = Here; plus = 2 ^ 64 - 4 }) ∷ counted_pieces common log frame)
+      → FrameStands sections frame → AllPlacesStand sections (piece.number (record { to = At end; from = Here; plus = 2 ^ 64 - 4 }) ∷ counted_pieces common log frame)
   entry_is common end log frame one other stands =
       let ops = ops_are frame.section log frame.start frame.ops stands.start stands.ops in
       ((other, tt), ((tt, one), (stands.start, ((stands.stop, stands.start), (tt, ops)))))
@@ -131,18 +77,18 @@ module _ (sections : List LooseSection) where
       → OneExtends section (entries_put section common end frames tables).sections sections → Reaches section tables.sections end
       → HoldsItems sections common.section common.place.item → All (FrameStands sections) frames
       → GetsStanding sections tables.symbols (entries_put section common end frames tables).symbols
-  entries_stand section common end [] tables extends reaches one all = standing_same tables.symbols
+  entries_stand section common end [] tables extends reaches one all = facts.standing.same sections tables.symbols
   entries_stand section common end (frame ∷ frames) tables extends reaches one all =
       let log = padded_log frames in
       let pieces : List Piece = entry_pieces section end common log frame in
       let next : SectionEnd = behind_pieces pieces end in
       let put : Tables = pieces_put section frame.pos pieces tables in
-      let reach : Reaches section put.sections next = pieces_reach section frame.pos pieces tables end reaches in
+      let reach : Reaches section put.sections next = facts.reaching section frame.pos pieces tables end reaches in
       let grown : OneExtends section put.sections sections =
-      one_on section put.sections (entries_put section common next frames put).sections sections (entries_extend section common next frames put) extends in
-      let stop : HoldsItems sections section next.items = items_grow section put.sections sections grown section next.items (reached section put.sections next reach) in
-      standing_on tables.symbols put.symbols (entries_put section common next frames put).symbols
-      (pieces_stand section frame.pos pieces tables (entry_is common (end_place section next) log frame one stop (All-head (FrameStands sections) frame frames all)))
+      facts.extending.extensions.on section put.sections (entries_put section common next frames put).sections sections (entries_extend facts.extending section common next frames put) extends in
+      let stop : HoldsItems sections section next.items = items_grow facts section put.sections sections grown section next.items (reached section put.sections next reach) in
+      facts.standing.on sections tables.symbols put.symbols (entries_put section common next frames put).symbols
+      (facts.standing.pieces sections section frame.pos pieces tables (entry_is common (end_place section next) log frame one stop (All-head (FrameStands sections) frame frames all)))
       (entries_stand section common next frames put extends reach one (All-tail (FrameStands sections) frame frames all))
 
 -- the common entry stands where the section ended
@@ -151,38 +97,39 @@ unfolding end_of
 common_there section sections held is =
     record { held = held; there = is; enough = let items = ap (λ found. (option_map_or run_end found no_end).items) is in omega (arith, items) }
 
-frames_grow : (section : ℕ) (before after : List LooseSection) → OneExtends section before after → (frame : Frame) → FrameStands before frame → FrameStands after frame
-frames_grow section before after extends frame stands = record {
-  start = items_grow section before after extends frame.section frame.start.item stands.start;
-  stop = items_grow section before after extends frame.section _ stands.stop;
+frames_grow : StandingFacts → (section : ℕ) (before after : List LooseSection) → OneExtends section before after → (frame : Frame) → FrameStands before frame → FrameStands after frame
+frames_grow facts section before after extends frame stands = record {
+  start = items_grow facts section before after extends frame.section frame.start.item stands.start;
+  stop = items_grow facts section before after extends frame.section _ stands.stop;
   ops = All-weaker (λ (placed : PlacedOp). HoldsItems before frame.section placed.place.item) (λ (placed : PlacedOp). HoldsItems after frame.section placed.place.item)
-      (λ placed has. items_grow section before after extends frame.section placed.place.item has) frame.ops stands.ops;
+      (λ placed has. items_grow facts section before after extends frame.section placed.place.item has) frame.ops stands.ops;
 }
 
-table_stands : PutsStayWithin → (section : ℕ) (pos : Pos) (frames : List Frame) (tables : Tables) (held : LooseSection) → slice_get tables.sections section ≡ Some held → IsWithin held
+table_stands : StandingFacts → (section : ℕ) (pos : Pos) (frames : List Frame) (tables : Tables) (held : LooseSection) → slice_get tables.sections section ≡ Some held → IsWithin held
     → All (FrameStands tables.sections) frames → GetsStanding (table_put section pos frames tables).sections tables.symbols (table_put section pos frames tables).symbols
-table_stands law section pos frames tables held is low stand =
+table_stands facts section pos frames tables held is low stand =
     let start : SectionEnd = record { items = length held.items; bytes = length held.bytes; in_run = ends_in_run held.items } in
     let ready : IsReady section tables.sections start =
     subst (λ (found : Option LooseSection). IsSomeAnd found (IsReadyAt start)) (sym is) (record { reaches = record { items = refl; bytes = refl; in_run = refl }; low = low }) in
     let begun : Reaches section tables.sections start =
     subst (λ (found : Option LooseSection). IsSomeAnd found (HasEnd start)) (sym is) (record { items = refl; bytes = refl; in_run = refl }) in
     let put : Tables = piece_put section pos (piece.plain common_bytes) tables in
-    let puts = piece_puts law section pos (piece.plain common_bytes) tables start ready in
-    let ended : end_of section put.sections ≡ behind_plain (length common_bytes) start = end_is section put.sections (behind_plain (length common_bytes) start) puts.0 refl in
+    let common : List Piece = piece.plain common_bytes ∷ [] in
+    let puts : IsReady section put.sections (behind_plain (length common_bytes) start) = facts.finding.ready section pos common tables start ready in
+    let ended : end_of section put.sections ≡ behind_plain (length common_bytes) start = end_is section put.sections (behind_plain (length common_bytes) start) puts refl in
     let reach : Reaches section put.sections (end_of section put.sections) =
-    subst (Reaches section put.sections) (sym ended) (piece_reaches section pos (piece.plain common_bytes) tables start begun) in
+    subst (Reaches section put.sections) (sym ended) (facts.reaching section pos common tables start begun) in
     let all : List LooseSection = (table_put section pos frames tables).sections in
-    let extends : OneExtends section tables.sections all = table_extends section pos frames tables in
-    entries_stand all section (end_place section (end_of section tables.sections)) (end_of section put.sections) frames put
-    (one_same section all) reach
-    (items_grow section tables.sections all extends section _ (common_there section tables.sections held is))
-    (All-weaker (FrameStands tables.sections) (FrameStands all) (frames_grow section tables.sections all extends) frames stand)
+    let extends : OneExtends section tables.sections all = table_extends facts.extending section pos frames tables in
+    entries_stand facts all section (end_place section (end_of section tables.sections)) (end_of section put.sections) frames put
+    (facts.extending.extensions.same section all) reach
+    (items_grow facts section tables.sections all extends section _ (common_there section tables.sections held is))
+    (All-weaker (FrameStands tables.sections) (FrameStands all) (frames_grow facts section tables.sections all extends) frames stand)
 
 of_all : (xs : List LooseSection) (i : ℕ) (x : LooseSection) → slice_get xs i ≡ Some x → All IsWithin xs → IsWithin x
 of_all xs i x there low = subst IsWithin (get_or_from_slice_get xs i x x there) (low i x (slice_get_within xs i x there))
 
-module _ (law : PutsStayWithin) (frame : Frame) (frames : List Frame) (tables after : Tables) (low : All IsWithin tables.sections) (stand : All (FrameStands tables.sections) (frame ∷ frames)) where
+module _ (facts : StandingFacts) (frame : Frame) (frames : List Frame) (tables after : Tables) (low : All IsWithin tables.sections) (stand : All (FrameStands tables.sections) (frame ∷ frames)) where
   -- the section is there before the table is put, since it is there then
   section_there : (section : ℕ) (sections : List LooseSection) (found : Option LooseSection) (P : LooseSection → Type 0) → slice_get after.sections section ≡ found
       → IsSomeAnd found P → length after.sections ≡ length sections → slice_get sections section ≡ Some (get_or sections section new_table)
@@ -194,11 +141,11 @@ module _ (law : PutsStayWithin) (frame : Frame) (frames : List Frame) (tables af
       → GetsStanding after.sections tables.symbols after.symbols
   by_first put same within all =
       let long : length after.sections ≡ length put.first.sections =
-      ap (λ (t : Tables). length t.sections) put.put ∙ (table_extends put.section frame.pos (frame ∷ frames) put.first).count in
+      ap (λ (t : Tables). length t.sections) put.put ∙ (table_extends facts.extending put.section frame.pos (frame ∷ frames) put.first).count in
       let there = section_there put.section put.first.sections (slice_get after.sections put.section) _ refl put.stands long in
       subst (λ (t : Tables). GetsStanding t.sections tables.symbols t.symbols) (sym put.put)
       (subst (λ (map : SymbolMap). GetsStanding (table_put put.section frame.pos (frame ∷ frames) put.first).sections map (table_put put.section frame.pos (frame ∷ frames) put.first).symbols) same
-      (table_stands law put.section frame.pos (frame ∷ frames) put.first (get_or put.first.sections put.section new_table) there
+      (table_stands facts put.section frame.pos (frame ∷ frames) put.first (get_or put.first.sections put.section new_table) there
       (of_all put.first.sections put.section _ there within) all))
 
   more_items : (number items : ℕ) → HoldsItems tables.sections number items → HoldsItems (tables.sections ++ new_table ∷ []) number items
@@ -225,6 +172,7 @@ module _ (law : PutsStayWithin) (frame : Frame) (frames : List Frame) (tables af
   ]
 
 -- where the places of procedures stand, so do those of labels
-pub labels_stand : PutsStayWithin → (frame : Frame) (frames : List Frame) (tables after : Tables) → All IsWithin tables.sections → All (FrameStands tables.sections) (frame ∷ frames)
+pub labels_stand : StandingFacts → (frame : Frame) (frames : List Frame) (tables after : Tables) → All IsWithin tables.sections → All (FrameStands tables.sections) (frame ∷ frames)
     → placed (frame ∷ frames) tables ≡ Ok after → GetsStanding after.sections tables.symbols after.symbols
-labels_stand law frame frames tables after low stand is = labels_by law frame frames tables after low stand (is_placed law frame frames tables after low is)
+labels_stand facts frame frames tables after low stand is =
+    labels_by facts frame frames tables after low stand (is_placed facts.extending facts.finding frame frames tables after low is)

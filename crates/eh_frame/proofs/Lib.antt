@@ -1,14 +1,9 @@
-mod LabelLemmas
-mod PutLemmas
+mod PieceFacts
+mod TableSteps
 mod NewTable
 mod ReadingLemmas
-mod ExtendLemmas
-mod EndLemmas
-mod NamedPlaces
 mod RefusedLemmas
 mod WorkedLemmas
-mod FoundLemmas
 mod TableLemmas
 mod AddedNames
 mod LabelPlaces
-mod FormLemmas

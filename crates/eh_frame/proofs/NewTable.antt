@@ -7,7 +7,7 @@ use Rattle.asm_base.specs.declared.causes.FragCause.TheVariants.{BadSection}
 use Rattle.asm_frags.specs.SectionOf.{section_number}
 use Rattle.asm_frags.specs.Sections.{section_flags, entered, entered_by}
 use Rattle.asm_frags.specs.Writing.{LooseSection, takes_zeros_alone}
-use Rattle.eh_frame.specs.Pieces.{Takes}
+use Rattle.table_pieces.specs.Pieces.{Takes}
 use Rattle.eh_frame.specs.Placing.{new_table}
 
 -- the sections with the new one, if there is room for it

@@ -27,10 +27,11 @@ use Rattle.cfi_rows.specs.Places.{Placed, up_to, row_after}
 use Rattle.cfi_rows.specs.Places.{rows_after as rows_behind}
 use Rattle.cfi_rows.specs.Rows.{Rows, common_row, start_rows, changed, ops_after}
 use Rattle.cfi_rows.specs.Written.{written}
-use Rattle.eh_frame.specs.declared.marks.Mark.TheVariants.{Here, At}
-use Rattle.eh_frame.specs.Pieces.{plain}
+use Rattle.table_pieces.specs.declared.marks.Mark.TheVariants.{Here, At}
+use Rattle.table_pieces.specs.Made.{Made, pieces_bytes, AreMade, IsSpan}
+use Rattle.table_pieces.specs.Pieces.{plain}
 use Rattle.eh_frame.specs.Entries.{op_code, known_advance, advance_piece, op_pieces}
-use Rattle.eh_frame.specs.Reading.{Made, pieces_bytes, AreMade, Follows, Rise, IsSpan, EntriesRead, RowsAreMeant}
+use Rattle.eh_frame.specs.Reading.{Follows, Rise, EntriesRead, RowsAreMeant}
 
 -- ADVANCES
 

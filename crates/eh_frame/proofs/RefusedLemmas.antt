@@ -10,7 +10,7 @@ use Rattle.asm_base.specs.declared.causes.FragCause.TheVariants.{BadSection}
 use Rattle.asm_frags.specs.SectionOf.{section_number, is_section_named}
 use Rattle.asm_frags.specs.Writing.{LooseSection, takes_zeros_alone}
 use Rattle.cfi_directives.specs.declared.frames.Frame.{Frame}
-use Rattle.eh_frame.specs.Pieces.{Tables}
+use Rattle.table_pieces.specs.Pieces.{Tables}
 use Rattle.eh_frame.specs.Placing.{new_table, table_put, placed_there, placed_in, placed}
 use Rattle.eh_frame.specs.Refused.{HasZerosAlone}
 

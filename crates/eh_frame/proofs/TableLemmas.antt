@@ -14,16 +14,19 @@ use Rattle.asm_frags.specs.SectionOf.{section_number}
 use Rattle.asm_frags.specs.Writing.{LooseItem, LooseSection, ends_in_run, takes_zeros_alone}
 use Rattle.cfi_directives.specs.declared.frames.Frame.{Frame}
 use Rattle.cfi_rows.specs.Entries.{common_bytes}
-use Rattle.eh_frame.specs.declared.ends.SectionEnd.{SectionEnd}
-use Rattle.eh_frame.specs.Pieces as piece
-use Rattle.eh_frame.specs.Pieces.{Tables, tables_of, piece_put, Takes}
-use Rattle.eh_frame.specs.Entries.{behind_plain, end_place}
-use Rattle.eh_frame.specs.Placing.{run_end, no_end, end_of, table_put, new_table, placed_there, placed_in, placed}
-use Rattle.eh_frame.specs.Standing.{Extends, OneExtends}
-use Rattle.section_laws.specs.Within.{IsWithin, PutsStayWithin}
-use Rattle.eh_frame.specs.Found.{IsReadyAt, IsReady, PlainAt, RunAt, EntriesStand, TableStands, IsPlaced}
-use Rattle.eh_frame.proofs.ExtendLemmas.{extends_same, one_same, entries_extend, table_extends}
-use Rattle.eh_frame.proofs.FoundLemmas.{piece_puts, entries_found, entries_within}
+use Rattle.asm_base.specs.declared.places.SectionPlace.{SectionPlace}
+use Rattle.table_pieces.specs.declared.ends.SectionEnd.{SectionEnd}
+use Rattle.table_pieces.specs.Pieces as piece
+use Rattle.table_pieces.specs.Pieces.{Piece, Tables, tables_of, piece_put, pieces_put, Takes}
+use Rattle.table_pieces.specs.Ends.{behind_plain, behind_pieces, end_place, run_end, no_end, end_of}
+use Rattle.table_pieces.specs.Standing.{Extends, OneExtends}
+use Rattle.section_laws.specs.Within.{IsWithin}
+use Rattle.table_pieces.specs.Found.{IsReadyAt, IsReady, PlainAt, RunAt, PiecesStand}
+use Rattle.eh_frame.specs.Entries.{entry_pieces}
+use Rattle.eh_frame.specs.Placing.{padded_log, entries_put, table_put, new_table, placed_there, placed_in, placed}
+use Rattle.eh_frame.specs.FoundTables.{EntriesStand, TableStands, IsPlaced}
+use Rattle.eh_frame.proofs.PieceFacts.{Extending, Finding}
+use Rattle.eh_frame.proofs.TableSteps.{entries_extend, table_extends}
 
 -- the end of a section that is ready, where its last item is a run
 end_by : (found : Option LooseSection) (end : SectionEnd) → IsSomeAnd found (IsReadyAt end) → end.in_run ≡ true → option_map_or run_end found no_end ≡ end
@@ -45,40 +48,72 @@ both_made : {X : Type 0} (P Q R : X → Type 0) (o : Option X) → ((x : X) → 
 both_made P Q R None make p q = absurd p
 both_made P Q R (Some x) make p q = make x p q
 
-pub table_found : PutsStayWithin → (section : ℕ) (pos : Pos) (frames : List Frame) (tables : Tables) (held : LooseSection) → slice_get tables.sections section ≡ Some held → IsWithin held
-    → IsSomeAnd (slice_get (table_put section pos frames tables).sections section) (λ held. TableStands held section pos frames tables × IsWithin held)
-table_found law section pos frames tables held is low =
-    let start : SectionEnd = record { items = length held.items; bytes = length held.bytes; in_run = ends_in_run held.items } in
-    let ready : IsReady section tables.sections start =
-    subst (λ (found : Option LooseSection). IsSomeAnd found (IsReadyAt start)) (sym is) (record { reaches = record { items = refl; bytes = refl; in_run = refl }; low = low }) in
-    let put : Tables = piece_put section pos (piece.plain common_bytes) tables in
-    let puts = piece_puts law section pos (piece.plain common_bytes) tables start ready in
-    let ended : end_of section put.sections ≡ behind_plain (length common_bytes) start = end_is section put.sections (behind_plain (length common_bytes) start) puts.0 refl in
-    let began : end_of section tables.sections ≡ run_end held = end_there section tables.sections held is in
-    let behind : (end_of section put.sections).items ≡ (behind_plain (length common_bytes) start).items = ap (λ (end : SectionEnd). end.items) ended in
-    let all : List LooseSection = (table_put section pos frames tables).sections in
-    let extends : OneExtends section put.sections all = entries_extend section (end_place section (end_of section tables.sections)) (end_of section put.sections) frames put in
-    both_made (λ held. RunAt held pos start (behind_plain (length common_bytes) start).items × PlainAt held (behind_plain (length common_bytes) start).items start.bytes common_bytes)
-    (λ held. EntriesStand held section (end_place section (end_of section tables.sections)) (end_of section put.sections) frames put × IsWithin held)
-    (λ held. TableStands held section pos frames tables × IsWithin held) (slice_get all section)
-    (λ last common entries. (
-      record {
-        run = subst (λ (items : ℕ). RunAt last pos (end_of section tables.sections) items) (sym behind)
-            (subst (λ (end : SectionEnd). RunAt last pos end (behind_plain (length common_bytes) start).items) (sym began) common.0);
-        common = subst (λ (items : ℕ). PlainAt last items (end_of section tables.sections).bytes common_bytes) (sym behind)
-            (subst (λ (end : SectionEnd). PlainAt last (behind_plain (length common_bytes) start).items end.bytes common_bytes) (sym began) common.1);
-        entries = entries.0;
-      },
-      entries.1,
-    ))
-    (puts.1 all extends)
-    (both_made (λ held. EntriesStand held section (end_place section (end_of section tables.sections)) (end_of section put.sections) frames put) IsWithin
-    (λ held. EntriesStand held section (end_place section (end_of section tables.sections)) (end_of section put.sections) frames put × IsWithin held) (slice_get all section)
-    (λ last entries within. (entries, within))
-    (entries_found law section (end_place section (end_of section tables.sections)) (end_of section put.sections) frames put all
-    (subst (IsReady section put.sections) (sym ended) puts.0) (one_same section all))
-    (entries_within law section (end_place section (end_of section tables.sections)) (end_of section put.sections) frames put
-    (subst (IsReady section put.sections) (sym ended) puts.0)))
+-- the section stays within its bytes
+within_of : (section : ℕ) (sections : List LooseSection) (end : SectionEnd) → IsReady section sections end → IsSomeAnd (slice_get sections section) IsWithin
+within_of section sections end = by (slice_get sections section)
+  where
+    by : (found : Option LooseSection) → IsSomeAnd found (IsReadyAt end) → IsSomeAnd found IsWithin
+    by None ready = absurd ready
+    by (Some held) ready = ready.low
+
+module _ (extending : Extending) (finding : Finding) where
+  entries_found : (section : ℕ) (common : SectionPlace) (end : SectionEnd) (frames : List Frame) (tables : Tables) (last : List LooseSection)
+      → IsReady section tables.sections end → OneExtends section (entries_put section common end frames tables).sections last
+      → IsSomeAnd (slice_get last section) (λ held. EntriesStand held section common end frames tables)
+  entries_found section common end [] tables last ready extends = finding.pieces section (record { file = 0; line = 0 }) [] tables end last ready extends
+  entries_found section common end (frame ∷ frames) tables last ready extends =
+      let pieces : List Piece = entry_pieces section end common (padded_log frames) frame in
+      let put : Tables = pieces_put section frame.pos pieces tables in
+      both_made (λ held. PiecesStand held section frame.pos end tables pieces)
+      (λ held. EntriesStand held section common (behind_pieces pieces end) frames put)
+      (λ held. EntriesStand held section common end (frame ∷ frames) tables) (slice_get last section) (λ held one others. (one, others))
+      (finding.pieces section frame.pos pieces tables end last ready
+      (extending.extensions.on section put.sections (entries_put section common (behind_pieces pieces end) frames put).sections last
+      (entries_extend extending section common (behind_pieces pieces end) frames put) extends))
+      (entries_found section common (behind_pieces pieces end) frames put last (finding.ready section frame.pos pieces tables end ready) extends)
+
+  entries_within : (section : ℕ) (common : SectionPlace) (end : SectionEnd) (frames : List Frame) (tables : Tables) → IsReady section tables.sections end
+      → IsSomeAnd (slice_get (entries_put section common end frames tables).sections section) IsWithin
+  entries_within section common end [] tables ready = within_of section tables.sections end ready
+  entries_within section common end (frame ∷ frames) tables ready =
+      let pieces : List Piece = entry_pieces section end common (padded_log frames) frame in
+      entries_within section common (behind_pieces pieces end) frames (pieces_put section frame.pos pieces tables) (finding.ready section frame.pos pieces tables end ready)
+
+  pub table_found : (section : ℕ) (pos : Pos) (frames : List Frame) (tables : Tables) (held : LooseSection) → slice_get tables.sections section ≡ Some held → IsWithin held
+      → IsSomeAnd (slice_get (table_put section pos frames tables).sections section) (λ held. TableStands held section pos frames tables × IsWithin held)
+  table_found section pos frames tables held is low =
+      let start : SectionEnd = record { items = length held.items; bytes = length held.bytes; in_run = ends_in_run held.items } in
+      let ready : IsReady section tables.sections start =
+      subst (λ (found : Option LooseSection). IsSomeAnd found (IsReadyAt start)) (sym is) (record { reaches = record { items = refl; bytes = refl; in_run = refl }; low = low }) in
+      let put : Tables = piece_put section pos (piece.plain common_bytes) tables in
+      let common : List Piece = piece.plain common_bytes ∷ [] in
+      let puts : IsReady section put.sections (behind_plain (length common_bytes) start) = finding.ready section pos common tables start ready in
+      let ended : end_of section put.sections ≡ behind_plain (length common_bytes) start = end_is section put.sections (behind_plain (length common_bytes) start) puts refl in
+      let began : end_of section tables.sections ≡ run_end held = end_there section tables.sections held is in
+      let behind : (end_of section put.sections).items ≡ (behind_plain (length common_bytes) start).items = ap (λ (end : SectionEnd). end.items) ended in
+      let all : List LooseSection = (table_put section pos frames tables).sections in
+      let extends : OneExtends section put.sections all = entries_extend extending section (end_place section (end_of section tables.sections)) (end_of section put.sections) frames put in
+      both_made (λ held. PiecesStand held section pos start tables common)
+      (λ held. EntriesStand held section (end_place section (end_of section tables.sections)) (end_of section put.sections) frames put × IsWithin held)
+      (λ held. TableStands held section pos frames tables × IsWithin held) (slice_get all section)
+      (λ last stands entries. (
+        record {
+          run = subst (λ (items : ℕ). RunAt last pos (end_of section tables.sections) items) (sym behind)
+              (subst (λ (end : SectionEnd). RunAt last pos end (behind_plain (length common_bytes) start).items) (sym began) stands.0.0);
+          common = subst (λ (items : ℕ). PlainAt last items (end_of section tables.sections).bytes common_bytes) (sym behind)
+              (subst (λ (end : SectionEnd). PlainAt last (behind_plain (length common_bytes) start).items end.bytes common_bytes) (sym began) stands.0.1);
+          entries = entries.0;
+        },
+        entries.1,
+      ))
+      (finding.pieces section pos common tables start all ready extends)
+      (both_made (λ held. EntriesStand held section (end_place section (end_of section tables.sections)) (end_of section put.sections) frames put) IsWithin
+      (λ held. EntriesStand held section (end_place section (end_of section tables.sections)) (end_of section put.sections) frames put × IsWithin held) (slice_get all section)
+      (λ last entries within. (entries, within))
+      (entries_found section (end_place section (end_of section tables.sections)) (end_of section put.sections) frames put all
+      (subst (IsReady section put.sections) (sym ended) puts) (extending.extensions.same section all))
+      (entries_within section (end_place section (end_of section tables.sections)) (end_of section put.sections) frames put
+      (subst (IsReady section put.sections) (sym ended) puts)))
 
 get_last : (xs : List LooseSection) (x : LooseSection) → slice_get (xs ++ x ∷ []) (length xs) ≡ Some x
 get_last [] x = refl
@@ -121,25 +156,13 @@ all_within section before after low extends one = λ k d within. by k d within (
         subst IsWithin (sym (get_or_from_slice_get after k (get_or before k d) d (extends.others k (λ same. absurd (let none : ⊥ = cc (is, eq-eqb k section same) in none)) ∙ there)))
         (low k d inside)
 
--- each section is extended where one is
-pub each_extends : (section : ℕ) (before after : List LooseSection) → OneExtends section before after → (number : ℕ) (held : LooseSection)
-    → slice_get before number ≡ Some held → (now : LooseSection) × (slice_get after number ≡ Some now) × Extends held now
-each_extends section before after extends number held is = by (number == section) refl
-  where
-    by : (same : Bool) → (number == section) ≡ same → (now : LooseSection) × (slice_get after number ≡ Some now) × Extends held now
-    by true same =
-        subst (λ (n : ℕ). (now : LooseSection) × (slice_get after n ≡ Some now) × Extends held now) (sym (eqb-true number section same))
-        (extends.there held (subst (λ (n : ℕ). slice_get before n ≡ Some held) (eqb-true number section same) is))
-    by false apart =
-        (held, extends.others number (λ same. absurd (let none : ⊥ = cc (apart, eq-eqb number section same) in none)) ∙ is, extends_same held)
-
 takes_at : (section : ℕ) (sections : List LooseSection) (held : LooseSection) → slice_get sections section ≡ Some held → takes_zeros_alone held ≡ false → Takes section sections
 takes_at section sections held there filled = record {
   within = slice_get_within sections section held there;
   filled = subst (λ (found : Option LooseSection). IsSomeAnd found (λ held. takes_zeros_alone held ≡ false)) (sym there) filled;
 }
 
-module _ (law : PutsStayWithin) (frame : Frame) (frames : List Frame) (tables after : Tables) (low : All IsWithin tables.sections) where
+module _ (extending : Extending) (finding : Finding) (frame : Frame) (frames : List Frame) (tables after : Tables) (low : All IsWithin tables.sections) where
   -- where it takes more than zeros, the section that is there
   found_by : (section : ℕ) (held : LooseSection) (zeros : Bool) → section_number (codes ".eh_frame") tables.sections ≡ Some section
       → slice_get tables.sections section ≡ Some held → takes_zeros_alone held ≡ zeros
@@ -151,9 +174,9 @@ module _ (law : PutsStayWithin) (frame : Frame) (frames : List Frame) (tables af
       let within : section < length tables.sections = slice_get_within tables.sections section held there in
       let all : List LooseSection = (table_put section frame.pos (frame ∷ frames) tables).sections in
       let found = parts (λ held. TableStands held section frame.pos (frame ∷ frames) tables) IsWithin (slice_get all section)
-      (table_found law section frame.pos (frame ∷ frames) tables held there
+      (table_found extending finding section frame.pos (frame ∷ frames) tables held there
       (subst IsWithin (get_or_from_slice_get tables.sections section held held there) (low section held within))) in
-      let extends : OneExtends section tables.sections all = table_extends section frame.pos (frame ∷ frames) tables in
+      let extends : OneExtends section tables.sections all = table_extends extending section frame.pos (frame ∷ frames) tables in
       record {
         section = section;
         first = tables;
@@ -163,7 +186,7 @@ module _ (law : PutsStayWithin) (frame : Frame) (frames : List Frame) (tables af
         stands = subst (λ (after : Tables). IsSomeAnd (slice_get after.sections section) (λ held. TableStands held section frame.pos (frame ∷ frames) tables)) (sym made) found.0;
         within = subst (λ (after : Tables). All IsWithin after.sections) (sym made) (all_within section tables.sections all low extends found.1);
         grows = subst (λ (after : Tables). (number : ℕ) (held : LooseSection) → slice_get tables.sections number ≡ Some held
-            → (now : LooseSection) × (slice_get after.sections number ≡ Some now) × Extends held now) (sym made) (each_extends section tables.sections all extends);
+            → (now : LooseSection) × (slice_get after.sections number ≡ Some now) × Extends held now) (sym made) (extending.extensions.all section tables.sections all extends);
       }
 
   in_section : (section : ℕ) (found : Option LooseSection) → section_number (codes ".eh_frame") tables.sections ≡ Some section
@@ -180,8 +203,8 @@ module _ (law : PutsStayWithin) (frame : Frame) (frames : List Frame) (tables af
       let section : ℕ = length tables.sections in
       let all : List LooseSection = (table_put section frame.pos (frame ∷ frames) first).sections in
       let found = parts (λ held. TableStands held section frame.pos (frame ∷ frames) first) IsWithin (slice_get all section)
-      (table_found law section frame.pos (frame ∷ frames) first new_table (get_last tables.sections new_table) new_low) in
-      let extends : OneExtends section first.sections all = table_extends section frame.pos (frame ∷ frames) first in
+      (table_found extending finding section frame.pos (frame ∷ frames) first new_table (get_last tables.sections new_table) new_low) in
+      let extends : OneExtends section first.sections all = table_extends extending section frame.pos (frame ∷ frames) first in
       let low_first : All IsWithin first.sections =
       All-append IsWithin tables.sections (new_table ∷ []) low (All-cons IsWithin new_table [] new_low (All-nil IsWithin)) in
       record {
@@ -194,7 +217,7 @@ module _ (law : PutsStayWithin) (frame : Frame) (frames : List Frame) (tables af
         within = subst (λ (after : Tables). All IsWithin after.sections) (sym made) (all_within section first.sections all low_first extends found.1);
         grows = subst (λ (after : Tables). (number : ℕ) (held : LooseSection) → slice_get tables.sections number ≡ Some held
             → (now : LooseSection) × (slice_get after.sections number ≡ Some now) × Extends held now) (sym made)
-            (λ number held there. each_extends section first.sections all extends number held (get_first tables.sections (new_table ∷ []) number held there));
+            (λ number held there. extending.extensions.all section first.sections all extends number held (get_first tables.sections (new_table ∷ []) number held there));
       }
 
   pub is_placed : placed (frame ∷ frames) tables ≡ Ok after → IsPlaced frame frames tables after

@@ -4,10 +4,11 @@ use Rattle.asm_expr.specs.Forms.{plus_times, with_terms, with_term}
 use Rattle.asm_frags.specs.Fields.{low_bytes}
 use Rattle.item_bytes.specs.Levels.{advance_level}
 use Rattle.asm_symbols.specs.Interning.{number_of}
-use Rattle.cfi_rows.specs.Written.{uleb_bytes, sleb_bytes}
+use Rattle.leb128.specs.Digits.{uleb_bytes, sleb_bytes}
 use Rattle.item_bytes.specs.Advances.{advance_bytes}
-use Rattle.eh_frame.specs.Marks.{with_label}
-use Rattle.eh_frame.specs.Placing.{end_of, placed}
+use Rattle.table_pieces.specs.Ends.{end_of}
+use Rattle.table_pieces.specs.Marks.{with_label}
+use Rattle.eh_frame.specs.Placing.{placed}
 use Rattle.eh_frame.specs.WorkedTables.{WorkedTables}
 
 pub worked : WorkedTables

@@ -4,7 +4,7 @@ use Rattle.asm_frags.specs.Writing.{LooseSection}
 use Rattle.asm_symbols.specs.declared.entries.Symbol.{Symbol}
 use Rattle.asm_symbols.specs.Interning.{name_size, names_size}
 use Rattle.cfi_directives.specs.declared.frames.Frame.{Frame}
-use Rattle.eh_frame.specs.Pieces.{Tables}
+use Rattle.table_pieces.specs.Pieces.{Tables}
 use Rattle.eh_frame.specs.Placing.{placed}
 
 -- the names of sections, in their order

@@ -1,5 +1,5 @@
--- The entries of a frame table as pieces, and where they end (psABI for AMD64, section 4.2.4; DWARF 5, section 6.4).
-use Rattle.std.specs.Prelude.{ℕ, ◌+◌, ◌-◌, ◌^◌, ◌==◌, Bool, true, false, List, [], ◌∷◌, length, if◌then◌else◌}
+-- The entries of a frame table as pieces (psABI for AMD64, section 4.2.4; DWARF 5, section 6.4).
+use Rattle.std.specs.Prelude.{ℕ, ◌-◌, ◌^◌, ◌==◌, Bool, true, false, List, [], ◌∷◌}
 use Rattle.std.specs.Option.{unwrap_or}
 use Rattle.item_bytes.specs.Levels.{advance_level}
 use Rattle.cfi_directives.specs.declared.frames.Frame.{Frame}
@@ -10,38 +10,10 @@ use Rattle.cfi_directives.specs.Meant.{place_in, stop_of}
 use Rattle.cfi_rows.specs.declared.rows.CfiOp.{CfiOp}
 use Rattle.cfi_rows.specs.Written.{written}
 use Rattle.item_bytes.specs.Advances.{advance_bytes}
-use Rattle.eh_frame.specs.declared.ends.SectionEnd.{SectionEnd}
-use Rattle.eh_frame.specs.declared.marks.Mark.TheVariants.{Here, At}
-use Rattle.eh_frame.specs.Pieces.{Piece, plain, number, pointer, advance, padding}
-
--- the end behind so many plain bytes more, which go on with a run that is last
-abbrev pub behind_plain : ℕ → SectionEnd → SectionEnd
-behind_plain count end = record {
-  items = if end.in_run then end.items else end.items + 1;
-  bytes = end.bytes + count;
-  in_run = true;
-}
-
--- the end behind an item more
-abbrev pub behind_item : SectionEnd → SectionEnd
-behind_item end = record { items = end.items + 1; bytes = end.bytes; in_run = false }
-
--- the end behind a piece
-abbrev pub behind_piece : Piece → SectionEnd → SectionEnd
-behind_piece (plain bytes) end = behind_plain (length bytes) end
-behind_piece (number distance) end = behind_plain 4 end
-behind_piece (pointer place) end = behind_plain 4 end
-behind_piece (advance distance) end = behind_item end
-behind_piece (padding log) end = behind_item end
-
--- the end behind pieces
-abbrev pub behind_pieces : List Piece → SectionEnd → SectionEnd
-behind_pieces [] end = end
-behind_pieces (piece ∷ pieces) end = behind_pieces pieces (behind_piece piece end)
-
--- the end as a place of the section of this number
-abbrev pub end_place : ℕ → SectionEnd → SectionPlace
-end_place section end = record { section = section; place = record { item = end.items; offset = end.bytes } }
+use Rattle.table_pieces.specs.declared.ends.SectionEnd.{SectionEnd}
+use Rattle.table_pieces.specs.declared.marks.Mark.TheVariants.{Here, At}
+use Rattle.table_pieces.specs.Ends.{behind_plain, behind_pieces, end_place}
+use Rattle.table_pieces.specs.Pieces.{Piece, plain, number, pointer, advance, padding}
 
 -- the bytes of an instruction
 abbrev pub op_code : CfiOp → List ℕ

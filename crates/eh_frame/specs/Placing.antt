@@ -1,6 +1,5 @@
 -- A frame table, put behind what stands in its section.
-use Rattle.std.specs.Prelude.{ℕ, true, List, [], ◌∷◌, ◌++◌, codes, length, Option, None, Some, Result, Ok, Err, slice_get, if◌then◌else◌}
-use Rattle.std.specs.Option.{option_map_or}
+use Rattle.std.specs.Prelude.{ℕ, List, [], ◌∷◌, ◌++◌, codes, length, Option, None, Some, Result, Ok, Err, slice_get, if◌then◌else◌}
 use Rattle.asm_base.specs.declared.positions.Pos.{Pos}
 use Rattle.asm_base.specs.declared.causes.FragCause.{FragCause}
 use Rattle.asm_base.specs.declared.causes.FragCause.TheVariants.{BadSection}
@@ -10,9 +9,10 @@ use Rattle.asm_frags.specs.Writing.{LooseSection, takes_zeros_alone}
 use Rattle.cfi_directives.specs.declared.frames.Frame.{Frame}
 use Rattle.asm_base.specs.declared.places.SectionPlace.{SectionPlace}
 use Rattle.cfi_rows.specs.Entries.{common_bytes}
-use Rattle.eh_frame.specs.declared.ends.SectionEnd.{SectionEnd}
-use Rattle.eh_frame.specs.Pieces.{Tables, tables_of, plain, piece_put, pieces_put}
-use Rattle.eh_frame.specs.Entries.{behind_pieces, end_place, entry_pieces}
+use Rattle.table_pieces.specs.declared.ends.SectionEnd.{SectionEnd}
+use Rattle.table_pieces.specs.Ends.{behind_pieces, end_place, end_of}
+use Rattle.table_pieces.specs.Pieces.{Tables, tables_of, plain, piece_put, pieces_put}
+use Rattle.eh_frame.specs.Entries.{entry_pieces}
 
 -- the last entry is padded to a multiple of 8, and each other one to a multiple of 4
 abbrev pub padded_log : List Frame → ℕ
@@ -25,18 +25,6 @@ entries_put section common end [] tables = tables
 entries_put section common end (frame ∷ frames) tables =
     entries_put section common (behind_pieces (entry_pieces section end common (padded_log frames) frame) end) frames
     (pieces_put section frame.pos (entry_pieces section end common (padded_log frames) frame) tables)
-
--- the end of a section whose last item is a run
-abbrev pub run_end : LooseSection → SectionEnd
-run_end section = record { items = length section.items; bytes = length section.bytes; in_run = true }
-
--- the end of no section
-abbrev pub no_end : SectionEnd
-no_end = record { items = 0; bytes = 0; in_run = true }
-
--- the end of the section of this number, whose last item is a run
-unfoldable pub end_of : ℕ → List LooseSection → SectionEnd
-end_of section sections = option_map_or run_end (slice_get sections section) no_end
 
 -- the entries, the common one of which stands at a place of the section of this number
 abbrev pub entries_behind : ℕ → SectionPlace → List Frame → Tables → Tables

@@ -16,10 +16,10 @@ use Rattle.cfi_rows.specs.declared.rows.CfiOp.{CfiOp}
 use Rattle.cfi_rows.specs.declared.rows.CfiOp.TheVariants.{DefCfa, DefCfaRegister, DefCfaOffset, Set}
 use Rattle.cfi_rows.specs.declared.rows.Rule.TheVariants.{Offset}
 use Rattle.cfi_rows.specs.Entries.{common_bytes}
-use Rattle.eh_frame.specs.Pieces.{Tables, tables_of}
+use Rattle.table_pieces.specs.Made.{Made, pieces_bytes}
+use Rattle.table_pieces.specs.Pieces.{Tables, tables_of}
 use Rattle.eh_frame.specs.Entries.{counted_pieces, length_piece}
 use Rattle.eh_frame.specs.Placing.{placed}
-use Rattle.eh_frame.specs.Reading.{Made, pieces_bytes}
 
 -- a place of `.text`
 abbrev pub at_place : ℕ → ℕ → Place

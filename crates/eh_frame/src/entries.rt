@@ -4,13 +4,11 @@ ghost use Rattle.std.specs.Prelude.{◌≡◌, ◌≤◌, ℕ, List, ◌∷◌, 
 ghost use Rattle.asm_base.specs.declared.refusals.Refusal.TheVariants.{NoMemory};
 ghost use Rattle.asm_base.specs.declared.places.SectionPlace.{SectionPlace as SectionPlaceValue};
 ghost use Rattle.cfi_directives.specs.Meant as meant;
+ghost use Rattle.table_pieces.specs.Ends as ends;
+ghost use Rattle.table_pieces.specs.Pieces.{Piece, Takes, piece_put, pieces_put, tables_of, padding};
 ghost use Rattle.eh_frame.specs.Entries as spec;
-ghost use Rattle.eh_frame.specs.Pieces.{Piece, Takes, piece_put, pieces_put, tables_of, padding};
 
 use crate::advances::known_advance;
-use crate::ends::SectionEnd;
-use crate::marks::{Distance, Mark};
-use crate::putting::{Table, put_advance, put_number, put_padding, put_plain, put_pointer};
 use arrayvec::ArrayVec;
 use asm_base::{Place, SectionPlace};
 use asm_frags::{FragFault, Sections};
@@ -18,6 +16,9 @@ use asm_symbols::Symbols;
 use cfi_directives::{Frame, PlacedOp};
 use cfi_rows::{CfiBytes, CfiOp, op_bytes};
 use std::alloc::Global;
+use table_pieces::{
+    Distance, Mark, SectionEnd, Table, put_advance, put_number, put_padding, put_plain, put_pointer,
+};
 
 /// The bytes of an instruction.
 fn op_code(op: CfiOp) -> CfiBytes
@@ -49,8 +50,8 @@ fn stop_of(frame: &Frame) -> Place
 /// The end behind an instruction, where its numbers fit in 64 bits.
 fn behind_op(end: SectionEnd, last: Place, placed: PlacedOp) -> Option<SectionEnd>
     ensures { (section : ℕ) (pieces : List Piece) → IfSome result (λ behind.
-        spec.behind_pieces pieces behind
-        ≡ spec.behind_pieces (spec.with_op section last placed pieces) end) }
+        ends.behind_pieces pieces behind
+        ≡ ends.behind_pieces (spec.with_op section last placed pieces) end) }
 {
     let advanced = if last.item == placed.place.item {
         let known = known_advance(placed.place.offset.saturating_sub(last.offset));
@@ -64,7 +65,7 @@ fn behind_op(end: SectionEnd, last: Place, placed: PlacedOp) -> Option<SectionEn
 /// The end behind the instructions from a place on, and the padding, where its numbers fit in 64 bits.
 fn behind_ops(end: SectionEnd, start: Place, ops: &[PlacedOp]) -> Option<SectionEnd>
     ensures { (section log : ℕ) → IfSome result (λ behind.
-        behind ≡ spec.behind_pieces (spec.op_pieces section log start ops.now) end) }
+        behind ≡ ends.behind_pieces (spec.op_pieces section log start ops.now) end) }
 {
     let mut behind = end;
     let mut last = start;
@@ -78,7 +79,7 @@ fn behind_ops(end: SectionEnd, start: Place, ops: &[PlacedOp]) -> Option<Section
 /// The end behind an entry, where its numbers fit in 64 bits.
 fn behind_entry(end: SectionEnd, frame: &Frame) -> Option<SectionEnd>
     ensures { (common : SectionPlaceValue) (log : ℕ) → IfSome result (λ behind. behind
-        ≡ spec.behind_pieces (spec.counted_pieces common log frame.now) (spec.behind_plain 4 end)) }
+        ≡ ends.behind_pieces (spec.counted_pieces common log frame.now) (ends.behind_plain 4 end)) }
 {
     let counted = end.behind_plain(4)?;
     let code = counted
@@ -202,7 +203,7 @@ pub(crate) fn put_entry(
         ≡ pieces_put section frame.now.pos (spec.entry_pieces section end common log frame.now)
         (tables_of symbols.old sections.old)) }
     ensures end { IfOk result (λ behind. behind
-        ≡ spec.behind_pieces (spec.entry_pieces section end common log frame.now) end) }
+        ≡ ends.behind_pieces (spec.entry_pieces section end common log frame.now) end) }
     ensures takes { OnOk result (Takes section sections.new) }
     ensures memory { IfErr result (λ fault. fault ≡ NoMemory) }
 {

@@ -7,17 +7,16 @@ ghost use Rattle.asm_base.specs.declared.positions.Pos.{Pos as PosValue};
 ghost use Rattle.asm_base.specs.declared.causes.FragCause.TheVariants.{BadSection};
 ghost use Rattle.asm_frags.specs.SectionOf.{section_number};
 ghost use Rattle.cfi_directives.specs.declared.frames.Frame.{Frame as FrameValue};
-ghost use Rattle.eh_frame.specs.Pieces.{Takes, Tables, tables_of};
+ghost use Rattle.table_pieces.specs.Pieces.{Takes, Tables, tables_of};
 ghost use Rattle.eh_frame.specs.Placing as spec;
 
-use crate::ends::SectionEnd;
 use crate::entries::put_entry;
-use crate::putting::{Table, put_plain};
 use asm_base::{Pos, SectionPlace, Text};
 use asm_frags::{FragCause, FragFault, SHT_NOBITS, SHT_PROGBITS, SectionFlags, Sections};
 use asm_symbols::Symbols;
 use cfi_directives::{Frame, Frames};
 use std::alloc::Global;
+use table_pieces::{SectionEnd, Table, put_plain};
 
 /// The name of the section of frame tables (psABI for AMD64, section 4.2.4).
 const NAME: &[u8] = b".eh_frame";

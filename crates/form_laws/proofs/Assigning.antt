@@ -38,7 +38,8 @@ use Rattle.form_laws.specs.Numbers.{IsInBytes}
 use Rattle.form_laws.proofs.Steps.{Fine, made, refused, weaker, step, after, either, given, held}
 use Rattle.form_laws.proofs.Maps.{Keeps, both, changed_long, changed_names, TakesForm, assigned_takes, defined_keeps}
 use Rattle.form_laws.proofs.Tables.{of_fine, onto, label_keeps, change_keeps, Closes, end_closes}
-use Rattle.form_laws.proofs.Placing.{Stays, Walks, still, walked, FramesKeep, data_walk, strings_walk, zero_walk, skip_walk, fill_walk, align_walk, org_walk, leb128_walk, dot_walk, said_walk, type_walk, size_walk, comm_walk, lcomm_walk, ident_walk, file_walk, error_walk, warning_walk, syntax_walk, bare_walk, section_walk, pushed_walk, popped_walk, frame_walk, instruction_walk}
+use Rattle.form_laws.proofs.Placing.{Stays, Walks, still, walked, data_walk, strings_walk, zero_walk, skip_walk, fill_walk, align_walk, org_walk, leb128_walk, dot_walk, said_walk, type_walk, size_walk, comm_walk, lcomm_walk, ident_walk, error_walk, warning_walk, syntax_walk, bare_walk, section_walk, pushed_walk, popped_walk, instruction_walk}
+use Rattle.form_laws.proofs.TableWalks.{TablesKeep, frame_walk, row_walk, any_file_walk}
 
 -- TOKENS
 
@@ -231,7 +232,7 @@ labels_walk pos (token ∷ []) placed = made _ (still placed)
 labels_walk pos (first ∷ second ∷ rest) placed =
     either (is_label first second) (walked placed (label_walk pos first placed) (λ labels. labels_walk pos rest labels)) (made _ (still placed))
 
-module _ (frames : FramesKeep) where
+module _ (tables : TablesKeep) where
   by_comes : (found : Directive) (pos : Pos) (tokens : List SpelledToken) (placed : Placed) → Fine (Comes tokens placed) (place_by found pos tokens placed)
   unfolding place_by
   by_comes (directive.Data size) pos tokens placed = stays_comes tokens placed (data_walk pos size tokens placed)
@@ -256,12 +257,13 @@ module _ (frames : FramesKeep) where
   by_comes directive.Comm pos tokens placed = stays_comes tokens placed (comm_walk pos tokens placed)
   by_comes directive.Lcomm pos tokens placed = stays_comes tokens placed (lcomm_walk pos tokens placed)
   by_comes directive.Ident pos tokens placed = stays_comes tokens placed (ident_walk pos tokens placed)
-  by_comes directive.File pos tokens placed = stays_comes tokens placed (file_walk tokens placed)
+  by_comes directive.File pos tokens placed = stays_comes tokens placed (any_file_walk tables pos tokens placed)
+  by_comes directive.Loc pos tokens placed = stays_comes tokens placed (row_walk tables pos tokens placed)
   by_comes (directive.Error said) pos tokens placed = stays_comes tokens placed (error_walk said tokens placed)
   by_comes directive.Warning pos tokens placed = stays_comes tokens placed (warning_walk pos tokens placed)
   by_comes (directive.Syntax syntax) pos tokens placed = stays_comes tokens placed (syntax_walk syntax tokens placed)
   by_comes directive.Code64 pos tokens placed = stays_comes tokens placed (bare_walk tokens placed (Ok placed) (made _ (still placed)))
-  by_comes (directive.Frame frame) pos tokens placed = stays_comes tokens placed (frame_walk frames frame pos tokens placed)
+  by_comes (directive.Frame frame) pos tokens placed = stays_comes tokens placed (frame_walk tables frame pos tokens placed)
 
   found_comes : (found : Option Directive) (pos : Pos) (tokens : List SpelledToken) (placed : Placed) → Fine (Comes tokens placed) (place_found found pos tokens placed)
   found_comes None pos tokens placed = refused _

@@ -16,7 +16,8 @@ use Rattle.form_laws.proofs.Assigning.{IsAssigned, Comes, statement_comes}
 use Rattle.form_laws.proofs.Linear.{only_weaker}
 use Rattle.form_laws.proofs.Maps.{changed_long, form_written}
 use Rattle.form_laws.proofs.Naming.{tree_meant}
-use Rattle.form_laws.proofs.Placing.{FramesKeep, words_stay}
+use Rattle.form_laws.proofs.Placing.{words_stay}
+use Rattle.form_laws.proofs.TableWalks.{TablesKeep}
 use Rattle.form_laws.proofs.Steps.{same_Ok, both_ok}
 use Rattle.form_laws.proofs.There.{count, form_here, closes_below, there_kept}
 
@@ -64,25 +65,25 @@ comes_there tokens before after old (inl stays) = there_kept before.table.symbol
 comes_there tokens before after old (inr is) = assigned_there tokens before after old is
 
 -- whatever statements are placed
-pub stay_there : FramesKeep → (statements : List TokenStatement) (before placed : Placed) → place_all statements before ≡ Ok placed → FormsAreThere before.table.symbols
+pub stay_there : TablesKeep → (statements : List TokenStatement) (before placed : Placed) → place_all statements before ≡ Ok placed → FormsAreThere before.table.symbols
     → FormsAreThere placed.table.symbols
 unfolding place_all
-stay_there frames [] before placed is old = subst (λ (p : Placed). FormsAreThere p.table.symbols) (same_Ok before placed is) old
-stay_there frames (s ∷ later) before placed is old =
+stay_there tables [] before placed is old = subst (λ (p : Placed). FormsAreThere p.table.symbols) (same_Ok before placed is) old
+stay_there tables (s ∷ later) before placed is old =
     both_ok (place s before) (place_all later) placed is
-    (λ next next_is later_is. stay_there frames later next placed later_is (comes_there s.tokens before next old (statement_comes frames s before next next_is)))
+    (λ next next_is later_is. stay_there tables later next placed later_is (comes_there s.tokens before next old (statement_comes tables s before next next_is)))
 
 -- at the beginning
 pub begin_there : (no_warn : Bool) → FormsAreThere (nothing_placed no_warn).table.symbols
 begin_there no_warn index form is = absurd (none-some form is)
 
 -- symbols do not go
-pub all_more : FramesKeep → (statements : List TokenStatement) (before placed : Placed) → place_all statements before ≡ Ok placed → count before ≤ count placed
+pub all_more : TablesKeep → (statements : List TokenStatement) (before placed : Placed) → place_all statements before ≡ Ok placed → count before ≤ count placed
 unfolding place_all
-all_more frames [] before placed is = subst (λ (p : Placed). count before ≤ count p) (same_Ok before placed is) (omega arith)
-all_more frames (s ∷ later) before placed is =
+all_more tables [] before placed is = subst (λ (p : Placed). count before ≤ count p) (same_Ok before placed is) (omega arith)
+all_more tables (s ∷ later) before placed is =
     both_ok (place s before) (place_all later) placed is
     (λ next next_is later_is.
-    let first = comes_more s.tokens before next (statement_comes frames s before next next_is) in
-    let last = all_more frames later next placed later_is in
+    let first = comes_more s.tokens before next (statement_comes tables s before next next_is) in
+    let last = all_more tables later next placed later_is in
     omega (arith, first, last))

@@ -1,8 +1,8 @@
--- A frame table adds labels alone to the symbols of a source.
-use Rattle.std.proofs.Common.{◌≡◌, ℕ, Bool, true, false, cond, List, [], ◌∷◌, ◌++◌, length, Option, None, Some, Result, Ok, Err, sym, ap, subst, slice_get}
+-- A frame table and a line table add labels alone to the symbols of a source.
+use Rattle.std.proofs.Common.{◌≡◌, ℕ, Bool, true, false, cond, List, [], ◌∷◌, ◌++◌, length, Option, None, Some, Result, Ok, Err, sym, ap, subst, slice_get, ◌∙◌, append_assoc}
 use Rattle.std.specs.Prelude.{codes}
 use Rattle.std.proofs.lemmas.List.{append-nil}
-use Rattle.std.proofs.lemmas.List.Elements.{All-nil, All-weaker}
+use Rattle.std.proofs.lemmas.List.Elements.{All-nil, All-append, All-weaker}
 use Rattle.asm_base.specs.declared.causes.FragCause.{FragCause}
 use Rattle.asm_base.specs.declared.causes.FragCause.TheVariants.{BadSection}
 use Rattle.asm_base.specs.declared.places.SectionPlace.{SectionPlace}
@@ -13,9 +13,12 @@ use Rattle.asm_symbols.specs.declared.entries.Symbol.{Symbol}
 use Rattle.asm_symbols.specs.Attributes.{is_weak}
 use Rattle.asm_symbols.specs.SymbolMap.{SymbolMap}
 use Rattle.cfi_directives.specs.declared.frames.Frame.{Frame}
-use Rattle.eh_frame.specs.Labels.{IsLabelAt, GetsLabels}
-use Rattle.eh_frame.specs.Marks.{place_name}
-use Rattle.eh_frame.specs.Pieces.{Tables, tables_of}
+use Rattle.table_pieces.specs.Labels.{IsLabelAt, GetsLabels}
+use Rattle.table_pieces.specs.Marks.{place_name}
+use Rattle.table_pieces.specs.Pieces.{Tables, tables_of}
+use Rattle.line_directives.specs.Taking.{LineTable}
+use Rattle.line_table.specs.Additions.{OthersStay}
+use Rattle.line_table.specs.Placing as line_table
 use Rattle.eh_frame.specs.Placing.{table_put, new_table, placed_there, placed_in, placed}
 use Rattle.flow_graph.specs.AddedLabels.{IsStrongLabel, AddsLabels}
 use Rattle.form_laws.proofs.Steps.{err-ok, same_Ok}
@@ -31,6 +34,18 @@ gets_labels before after gets = record {
 
 none_added : (map : SymbolMap) → AddsLabels map map
 none_added map = record { labels = []; all = sym (append-nil map.symbols); each = All-nil IsStrongLabel }
+
+-- labels are added up
+pub adds_on : (before middle after : SymbolMap) → AddsLabels before middle → AddsLabels middle after → AddsLabels before after
+adds_on before middle after first last = record {
+  labels = first.labels ++ last.labels;
+  all = last.all ∙ ap (λ (symbols : List Symbol). symbols ++ last.labels) first.all ∙ append_assoc before.symbols first.labels last.labels;
+  each = All-append IsStrongLabel first.labels last.labels first.each last.each;
+}
+
+-- a line table adds labels alone
+pub lines_add : OthersStay → (lines : LineTable) (tables after : Tables) → line_table.placed lines tables ≡ Ok after → AddsLabels tables.symbols after.symbols
+lines_add stay lines tables after is = gets_labels tables.symbols after.symbols (stay.stays lines tables after is).gets
 
 -- the law of tables
 abbrev pub TablesGetLabels : Type 0

@@ -39,7 +39,8 @@ use Rattle.form_laws.proofs.Assigning.{labels_walk}
 use Rattle.form_laws.proofs.Below.{all_more}
 use Rattle.form_laws.proofs.Linear.{only_weaker, plus_only}
 use Rattle.form_laws.proofs.Naming.{EachName, IsMeant, both_meant}
-use Rattle.form_laws.proofs.Placing.{FramesKeep, names_stay, named_closes}
+use Rattle.form_laws.proofs.Placing.{names_stay, named_closes}
+use Rattle.form_laws.proofs.TableWalks.{TablesKeep}
 use Rattle.form_laws.proofs.Steps.{Fine, made, refused, weaker, step, after, either, held, err-ok, same_Ok, both_ok}
 use Rattle.form_laws.proofs.There.{count, IsHere, form_here, second_true, closes_below, there_kept}
 
@@ -212,17 +213,17 @@ module _ (pos : Pos) (text : InsnText) (labels : Placed) where
       second_uses : uses_place (known_here named).place forms.displacement ≡ true → keeps_place (known_here named).place forms ≡ true
       second_uses uses = second_true (uses_place (known_here named).place forms.immediate) (uses_place (known_here named).place forms.displacement) uses
 
-pub values_there : FramesKeep → (s : TokenStatement) (later : List TokenStatement) (before whole labels : Placed) (text : InsnText) (forms : ValueForms)
+pub values_there : TablesKeep → (s : TokenStatement) (later : List TokenStatement) (before whole labels : Placed) (text : InsnText) (forms : ValueForms)
     → FormsAreThere before.table.symbols → insn_in before.syntax s ≡ Some text → labelled (pos_at s.file s.line) s.tokens before ≡ Ok labels
     → forms_of (known_in (pos_at s.file s.line) text labels) text.immediate.tree text.displacement.tree ≡ Ok forms → place_all (s ∷ later) before ≡ Ok whole
     → AreValuesBelow (count whole) forms
 unfolding place_all
-values_there frames s later before whole labels text forms there written labels_are forms_are is =
+values_there tables s later before whole labels text forms there written labels_are forms_are is =
     both_ok (place s before) (place_all later) whole is
     (λ next next_is later_is.
     let kept = held labels labels_are (labels_walk (pos_at s.file s.line) s.tokens before) in
     text_below (pos_at s.file s.line) text labels forms next (count whole) (there_kept before.table.symbols labels.table.symbols kept there) forms_are
-    (statement_is s text before labels next written labels_are next_is) (all_more frames later next whole later_is))
+    (statement_is s text before labels next written labels_are next_is) (all_more tables later next whole later_is))
 
 -- ITS FIELDS
 

@@ -3,6 +3,7 @@ mod Steps
 mod Maps
 mod Tables
 mod Placing
+mod TableWalks
 mod Assigning
 mod Naming
 mod Linear

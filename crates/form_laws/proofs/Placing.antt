@@ -1,7 +1,6 @@
 -- Statements by which no form comes to a symbol: all but assignments.
 use Rattle.std.proofs.Common.{◌≡◌, ℕ, nat_le, Bool, true, false, List, [], ◌∷◌, Option, None, Some, Result, Ok, refl, sym, subst, ◌∙◌, slice_get}
 use Rattle.std.specs.Prelude.{◌+◌, ◌^◌, ◌-◌, codes, unwrap_or, drop, length, slice_range}
-use Rattle.std.specs.Result.{IfOk}
 use Rattle.std.specs.List.{list_any}
 use Rattle.asm_base.specs.Refusals.{◌>>=◌}
 use Rattle.asm_base.specs.Tokens.{SpelledToken}
@@ -36,7 +35,6 @@ use Rattle.asm_operands.specs.Operands.{name_of, operands_of, is_dot, begins_wit
 use Rattle.asm_operands.specs.Expressions.{expression_of, form_in, constant_in, up_to_three_listed, up_to_three_trees, up_to_three_forms, up_to_three_constants}
 use Rattle.asm_operands.specs.Results.{all_steps, if_some}
 use Rattle.asm_words.specs.declared.directives.AlignedBy.{AlignedBy}
-use Rattle.asm_words.specs.declared.directives.FrameDirective.{FrameDirective}
 use Rattle.asm_words.specs.declared.directives.Syntax.{Syntax}
 use Rattle.asm_words.specs.declared.directives.Syntax.TheVariants.{Att, Intel}
 use Rattle.asm_words.specs.Paddings.{align_of, org_of}
@@ -63,13 +61,11 @@ use Rattle.asm_declarations.specs.Commons.{bss, with_space, with_common, is_said
 use Rattle.asm_declarations.specs.Idents.{items_in, comment_bytes, comment_header, place_ident, place_file, one_string, file_name}
 use Rattle.asm_declarations.specs.SectionChanges.{bare, option_trees, entry_size_in, header_by, entered_as, enter_words, place_section, place_pushed, back_to, popped}
 use Rattle.asm_declarations.specs.SymbolWords.{place_said, place_type}
-use Rattle.asm_frames.specs.Keeping.{OnlyNames}
-use Rattle.asm_frames.specs.Placing.{place_frame}
 use Rattle.asm_place.specs.Coding.{InsnShape, shape_in, forms_of, values_in, of_operands, of_code, fields_of, put_rest, put_code, keeps_place, put_coded, put_by_jump, put_insn, put_named, insn_of_trees, from_own_place, place_insn, place_read, lone_code, insn_by, place_coded, place_instruction}
 use Rattle.asm_place.specs.CodePlaces.{ValueForms, FieldInCode}
 use Rattle.asm_place.specs.Remarks.{place_err, place_error, place_warning}
 use Rattle.asm_place.specs.SyntaxWords.{with_syntax, says_names, place_syntax}
-use Rattle.form_laws.proofs.Steps.{Fine, made, refused, known, weaker, step, after, either}
+use Rattle.form_laws.proofs.Steps.{Fine, made, refused, weaker, step, after, either}
 use Rattle.form_laws.proofs.Maps.{same, both}
 use Rattle.form_laws.proofs.Tables.{Tables, Closes, onto, name_keeps, tree_keeps, trees_keep, change_named_keeps, say_all_keep, sized_keeps, allowed_keeps, define_space_keeps, file_named_keeps, end_keeps, end_closes}
 use Rattle.form_laws.proofs.Maps.{kind_keeps}
@@ -418,17 +414,6 @@ back_walk (Some entered) placed = made _ (still placed)
 pub popped_walk : (placed : Placed) → Walks placed (popped placed)
 unfolding popped
 popped_walk placed = back_walk (slice_get placed.stack (length placed.stack - 1)) placed
-
--- FRAMES
-
--- what the law of frame directives says
-abbrev pub FramesKeep : Type 0
-FramesKeep = (directive : FrameDirective) (pos : Pos) (tokens : List SpelledToken) (placed : Placed) → IfOk (place_frame directive pos tokens placed) (OnlyNames pos placed)
-
-pub frame_walk : FramesKeep → (directive : FrameDirective) (pos : Pos) (tokens : List SpelledToken) (placed : Placed) → Walks placed (place_frame directive pos tokens placed)
-frame_walk frames directive pos tokens placed =
-    weaker (known (place_frame directive pos tokens placed) (frames directive pos tokens placed))
-    (λ after only. subst (Stays placed) (sym only.is) (names_stay pos only.trees placed))
 
 -- INSTRUCTIONS
 

@@ -28,7 +28,8 @@ use Rattle.form_laws.proofs.Fitting.{Fits, NumbersFit, form_fits_here}
 use Rattle.form_laws.proofs.IntelTexts.{intel_fits}
 use Rattle.form_laws.proofs.IntelTexts as intel
 use Rattle.form_laws.proofs.Maps.{Keeps, form_written}
-use Rattle.form_laws.proofs.Placing.{FramesKeep, names_stay, words_stay}
+use Rattle.form_laws.proofs.Placing.{names_stay, words_stay}
+use Rattle.form_laws.proofs.TableWalks.{TablesKeep}
 use Rattle.form_laws.proofs.Steps.{same_Ok, both_ok}
 use Rattle.form_laws.proofs.Texts.{IsFitting}
 use Rattle.form_laws.proofs.Trees.{ReadIsWritten, expression_fits}
@@ -60,15 +61,15 @@ module _ (law : ReadIsWritten) where
   comes_fit tokens before after all fit (inr is) = assigned_fits tokens before after all fit is
 
   -- whatever statements are placed
-  pub stay_fitting : FramesKeep → (statements : List TokenStatement) (before placed : Placed) → All IsSpelled statements → place_all statements before ≡ Ok placed
+  pub stay_fitting : TablesKeep → (statements : List TokenStatement) (before placed : Placed) → All IsSpelled statements → place_all statements before ≡ Ok placed
       → FormsFit before.table.symbols → FormsFit placed.table.symbols
   unfolding place_all
-  stay_fitting frames [] before placed all is fit = subst (λ (p : Placed). FormsFit p.table.symbols) (same_Ok before placed is) fit
-  stay_fitting frames (s ∷ later) before placed all is fit =
+  stay_fitting tables [] before placed all is fit = subst (λ (p : Placed). FormsFit p.table.symbols) (same_Ok before placed is) fit
+  stay_fitting tables (s ∷ later) before placed all is fit =
       both_ok (place s before) (place_all later) placed is
       (λ next next_is later_is.
-      stay_fitting frames later next placed (All-tail IsSpelled s later all) later_is
-      (comes_fit s.tokens before next (All-head IsSpelled s later all) fit (statement_comes frames s before next next_is)))
+      stay_fitting tables later next placed (All-tail IsSpelled s later all) later_is
+      (comes_fit s.tokens before next (All-head IsSpelled s later all) fit (statement_comes tables s before next next_is)))
 
 -- at the beginning
 pub begin_fitting : (no_warn : Bool) → FormsFit (nothing_placed no_warn).table.symbols

@@ -3,6 +3,7 @@
 ghost use Rattle.form_laws.specs.Numbers.{FormsBeginFitting, FormsStayFitting, TokensAreInBytes, ValuesFit};
 
 use asm_frames::frame_directives_keep_all_else;
+use asm_line_tables::line_directives_keep_all_else;
 use expr_texts::read_is_written;
 
 /// The tokens of bytes are spelled in bytes.
@@ -17,6 +18,7 @@ pub fn numbers_fit()
     ensures stays { FormsStayFitting }
 {
     frame_directives_keep_all_else();
+    line_directives_keep_all_else();
     read_is_written();
 }
 

@@ -9,10 +9,10 @@ use Rattle.asm_frags.specs.Fields.{low_bytes}
 use Rattle.asm_base.specs.declared.places.SectionPlace.{SectionPlace}
 use Rattle.cfi_rows.specs.Entries.{covered, after_back, after_length, entry_of}
 use Rattle.cfi_rows.specs.Instructions.{four_bytes_of}
-use Rattle.eh_frame.specs.declared.marks.Mark.TheVariants.{Here, At}
-use Rattle.eh_frame.specs.Pieces.{Piece, number, pointer, plain}
-use Rattle.eh_frame.specs.Reading.{Made, pieces_bytes, AreMade}
-use Rattle.frame_laws.proofs.Parts.{four_long, four_told, four_behind}
+use Rattle.table_pieces.specs.declared.marks.Mark.TheVariants.{Here, At}
+use Rattle.table_pieces.specs.Pieces.{Piece, number, pointer, plain}
+use Rattle.table_pieces.specs.Made.{Made, pieces_bytes, AreMade}
+use Rattle.frame_laws.proofs.FourBytes.{four_long, four_told, four_behind}
 
 -- a number that leads from one place to another is the distance between them
 led : (value to from : ℕ) → value < 2 ^ 64 → wrapped (value + from) ≡ wrapped (to + 0) → from ≤ to → to < 2 ^ 32 → value % 2 ^ 32 + from ≡ to

@@ -1,109 +1,25 @@
 -- The labels and the bytes that pieces bring.
-use Rattle.std.proofs.Common.{◌≡◌, ℕ, ◌+◌, ◌*◌, ◌≤◌, ◌==◌, Bool, true, false, List, [], ◌∷◌, ◌++◌, length, Option, None, Some, refl, arith, length-append}
+use Rattle.std.proofs.Common.{◌≡◌, ℕ, ◌+◌, ◌*◌, ◌≤◌, ◌==◌, Bool, true, false, List, [], ◌∷◌, length, Option, None, Some, arith}
 use Rattle.std.specs.Prelude.{All, IsSome, IsSomeAnd}
 use Rattle.std.specs.List.{slice_get}
 use Rattle.std.proofs.lemmas.List.Elements.{All-head, All-tail}
 use Rattle.asm_base.specs.declared.positions.Pos.{Pos}
 use Rattle.asm_frags.specs.Writing.{LooseSection}
-use Rattle.asm_symbols.specs.SymbolMap.{SymbolMap, names, index_of}
 use Rattle.cfi_directives.specs.declared.frames.Frame.{Frame}
 use Rattle.cfi_directives.specs.declared.frames.PlacedOp.{PlacedOp}
 use Rattle.asm_base.specs.declared.places.Place.{Place}
 use Rattle.asm_base.specs.declared.places.SectionPlace.{SectionPlace}
 use Rattle.cfi_rows.specs.Entries.{common_bytes}
 use Rattle.cfi_rows.specs.Written.{written}
-use Rattle.eh_frame.specs.declared.ends.SectionEnd.{SectionEnd}
-use Rattle.eh_frame.specs.declared.marks.Distance.{Distance}
-use Rattle.eh_frame.specs.declared.marks.Mark.{Mark}
-use Rattle.eh_frame.specs.declared.marks.Mark.TheVariants.{Here, At}
-use Rattle.eh_frame.specs.Marks.{place_name, label_symbol, with_label_by, with_label, with_mark, with_marks}
-use Rattle.eh_frame.specs.Pieces.{Piece, plain, number, pointer, advance, padding, from_here, Tables, Takes, piece_put, pieces_put}
-use Rattle.eh_frame.specs.Entries.{behind_piece, behind_pieces, end_place, op_code, advance_piece, op_pieces, entry_pieces}
-use Rattle.eh_frame.specs.Placing.{padded_log, entries_put, end_of, table_put}
-use Rattle.eh_frame.specs.Standing.{HasEnd, Reaches}
+use Rattle.table_pieces.specs.declared.ends.SectionEnd.{SectionEnd}
+use Rattle.table_pieces.specs.Counts.{labels_in, bytes_in, labels_of, bytes_of, PiecesAreCounted}
+use Rattle.table_pieces.specs.Pieces.{Piece, plain, Tables, Takes, piece_put, pieces_put}
+use Rattle.table_pieces.specs.Ends.{behind_pieces, end_place, end_of}
+use Rattle.eh_frame.specs.Entries.{op_code, advance_piece, op_pieces, entry_pieces}
+use Rattle.eh_frame.specs.Placing.{padded_log, entries_put, table_put}
+use Rattle.table_pieces.specs.Standing.{HasEnd, Reaches}
 use Rattle.frame_laws.specs.LabelCounts.{AreWritten, LabelsAreFew}
 use Rattle.frame_laws.proofs.WrittenBytes.{code_counts}
-
--- how many labels a piece brings at most
-abbrev labels_in : Piece → ℕ
-labels_in (plain bytes) = 0
-labels_in (number distance) = 2
-labels_in (pointer place) = 2
-labels_in (advance distance) = 2
-labels_in (padding log) = 0
-
--- how many plain bytes a piece has
-abbrev bytes_in : Piece → ℕ
-bytes_in (plain bytes) = length bytes
-bytes_in (number distance) = 4
-bytes_in (pointer place) = 4
-bytes_in (advance distance) = 0
-bytes_in (padding log) = 0
-
--- how many labels pieces bring at most
-abbrev labels_of : List Piece → ℕ
-labels_of [] = 0
-labels_of (piece ∷ pieces) = labels_in piece + labels_of pieces
-
--- how many plain bytes pieces have
-abbrev bytes_of : List Piece → ℕ
-bytes_of [] = 0
-bytes_of (piece ∷ pieces) = bytes_in piece + bytes_of pieces
-
--- LABELS
-
-label_by : (found : Option ℕ) (map : SymbolMap) (at : SectionPlace) → length (with_label_by found map at).symbols ≤ length map.symbols + 1
-label_by (Some found) map at = omega arith
-label_by None map at =
-    let more : length (map.symbols ++ label_symbol at (length map.symbols) ∷ []) ≡ length map.symbols + 1 =
-    length-append map.symbols (label_symbol at (length map.symbols) ∷ []) in
-    omega (arith, more)
-
-label_more : (map : SymbolMap) (at : SectionPlace) → length (with_label map at).symbols ≤ length map.symbols + 1
-unfolding with_label
-label_more map at = label_by (index_of (place_name at) (names map.symbols)) map at
-
-mark_more : (map : SymbolMap) (mark : Mark) → length (with_mark map mark).symbols ≤ length map.symbols + 1
-mark_more map Here = omega arith
-mark_more map (At at) = label_more map at
-
-marks_more : (map : SymbolMap) (distance : Distance) → length (with_marks map distance).symbols ≤ length map.symbols + 2
-marks_more map distance =
-    let one = mark_more map distance.to in
-    let other = mark_more (with_mark map distance.to) distance.from in
-    omega (arith, one, other)
-
-piece_more : (section : ℕ) (pos : Pos) (piece : Piece) (tables : Tables)
-    → length (piece_put section pos piece tables).symbols.symbols ≤ length tables.symbols.symbols + labels_in piece
-piece_more section pos (plain bytes) tables = omega arith
-piece_more section pos (number distance) tables = marks_more tables.symbols distance
-piece_more section pos (pointer place) tables = marks_more tables.symbols (from_here place)
-piece_more section pos (advance distance) tables = marks_more tables.symbols distance
-piece_more section pos (padding log) tables = omega arith
-
-pieces_more : (section : ℕ) (pos : Pos) (pieces : List Piece) (tables : Tables)
-    → length (pieces_put section pos pieces tables).symbols.symbols ≤ length tables.symbols.symbols + labels_of pieces
-pieces_more section pos [] tables = omega arith
-pieces_more section pos (piece ∷ pieces) tables =
-    let one = piece_more section pos piece tables in
-    let others = pieces_more section pos pieces (piece_put section pos piece tables) in
-    omega (arith, one, others)
-
--- BYTES
-
-piece_end : (piece : Piece) (end : SectionEnd) → (behind_piece piece end).bytes ≡ end.bytes + bytes_in piece
-piece_end (plain bytes) end = refl
-piece_end (number distance) end = refl
-piece_end (pointer place) end = refl
-piece_end (advance distance) end = omega arith
-piece_end (padding log) end = omega arith
-
-pieces_end : (pieces : List Piece) (end : SectionEnd) → (behind_pieces pieces end).bytes ≡ end.bytes + bytes_of pieces
-pieces_end [] end = omega arith
-pieces_end (piece ∷ pieces) end =
-    let one = piece_end piece end in
-    let others = pieces_end pieces (behind_piece piece end) in
-    omega (arith, one, others)
 
 -- ENTRIES
 
@@ -149,7 +65,7 @@ weaker : (P Q : LooseSection → Type 0) → ((held : LooseSection) → P held �
 weaker P Q to None is = absurd is
 weaker P Q to (Some held) is = to held is
 
-module _ (reach : PiecesReach) where
+module _ (counted : PiecesAreCounted) (reach : PiecesReach) where
   -- entries behind an end of the section bring few labels for the bytes behind that end
   entries_few : (section : ℕ) (common : SectionPlace) (end : SectionEnd) (frames : List Frame) (tables : Tables) → AreWritten frames
       → Reaches section tables.sections end → IsSomeAnd (slice_get (entries_put section common end frames tables).sections section)
@@ -163,9 +79,9 @@ module _ (reach : PiecesReach) where
       let put : Tables = pieces_put section frame.pos pieces tables in
       let last : Tables = entries_put section common next frames put in
       let each = λ (frame : Frame). All (λ (placed : PlacedOp). IsSome (written placed.op)) frame.ops in
-      let more : length put.symbols.symbols ≤ length tables.symbols.symbols + labels_of pieces = pieces_more section frame.pos pieces tables in
+      let more : length put.symbols.symbols ≤ length tables.symbols.symbols + labels_of pieces = counted.labels section frame.pos pieces tables in
       let few : labels_of pieces ≤ 2 * bytes_of pieces = entry_few section end common (padded_log frames) frame (All-head each frame frames all) in
-      let far : next.bytes ≡ end.bytes + bytes_of pieces = pieces_end pieces end in
+      let far : next.bytes ≡ end.bytes + bytes_of pieces = counted.bytes pieces end in
       weaker (λ held. length last.symbols.symbols + 2 * next.bytes ≤ length put.symbols.symbols + 2 * length held.bytes)
       (λ held. length last.symbols.symbols + 2 * end.bytes ≤ length tables.symbols.symbols + 2 * length held.bytes)
       (λ held is. omega (arith, is, more, few, far)) (slice_get last.sections section)

@@ -1,23 +1,11 @@
 -- Lemmas, in reading order.
-mod NumberForms
-mod ToldMarks
-mod LinkedForms
-mod HeldValues
 mod WrittenBytes
 mod LabelSteps
 mod Lists
-mod Shifts
-mod Parts
-mod SectionInFile
-mod MarkSymbols
-mod LaidMarks
-mod TableSections
-mod LocationRelocations
-mod AdvanceRoom
-mod PieceBytes
-mod EntryBytes
-mod Rises
+mod FourBytes
+mod PieceFacts
 mod EntryForm
+mod Rises
 mod EntryReading
 mod PlacedFrames
 mod Tables

@@ -1,66 +1,57 @@
 -- A frame table reads in the file.
-use Rattle.std.proofs.Common.{◌≡◌, ℕ, zero, suc, ◌+◌, ◌==◌, ◌*◌, ◌^◌, ◌<◌, ◌≤◌, inl, inr, true, false, List, [], ◌∷◌, ◌++◌, All, Option, Some, None, Ok, length, refl, sym, ap, ◌∙◌, subst, arith, length-append}
+use Rattle.std.proofs.Common.{◌≡◌, ℕ, zero, suc, ◌+◌, ◌==◌, ◌*◌, ◌^◌, ◌≤◌, inl, inr, true, false, List, [], ◌∷◌, ◌++◌, All, Option, Some, None, Ok, length, refl, sym, ap, ◌∙◌, subst, arith, length-append}
 use Rattle.std.specs.Prelude.{codes, slice_get, slice_set, IsSomeAnd, IsSome}
 use Rattle.std.specs.Option.{option_map_or}
 use Rattle.std.specs.Str.{bytes_eq}
 use Rattle.std.proofs.lemmas.List.Elements.{All-head, All-tail, All-weaker}
 use Rattle.std.proofs.lemmas.List.Quantifiers.{position-Some}
 use Rattle.std.proofs.lemmas.Option.{none-some, same_Some, get_or_from_slice_get}
+use Rattle.asm_base.specs.declared.places.SectionPlace.{SectionPlace}
 use Rattle.asm_base.specs.declared.positions.Pos.{Pos}
-use Rattle.asm_expr.specs.Forms.{wrapped}
 use Rattle.asm_symbols.specs.SymbolMap.{SymbolMap}
 use Rattle.asm_frags.specs.Fields.{own_place}
 use Rattle.asm_frags.specs.SectionOf.{SectionOf, is_section_named}
 use Rattle.asm_frags.specs.Addresses.{changed_there}
 use Rattle.asm_frags.specs.Writing.{LooseSection, takes_zeros_alone, with_bytes}
-use Rattle.asm_relax.specs.Final.{shift_in}
-use Rattle.asm_relax.specs.KeptSections.{kept_section}
-use Rattle.asm_relax.specs.Placing.{placed_from, shift_of}
+use Rattle.asm_relax.specs.KeptSections.{kept_section, LayoutsKeepSections}
 use Rattle.asm_relax.specs.Settling.{LaidItem, LaidSections, layout_of}
 use Rattle.elf_file.specs.Places.{PieceAt}
 use Rattle.elf_object.specs.Image.{image_of}
-use Rattle.elf_object.specs.Places.{moved}
+use Rattle.elf_object.specs.Places.{section_offset, moved}
 use Rattle.cfi_directives.specs.declared.frames.Frame.{Frame}
 use Rattle.cfi_directives.specs.declared.frames.PlacedOp.{PlacedOp}
-use Rattle.asm_base.specs.declared.places.SectionPlace.{SectionPlace}
 use Rattle.cfi_rows.specs.Entries.{common_bytes}
 use Rattle.cfi_rows.specs.Written.{written}
-use Rattle.eh_frame.specs.declared.ends.SectionEnd.{SectionEnd}
-use Rattle.eh_frame.specs.Entries.{behind_pieces, end_place, entry_pieces}
 use Rattle.section_laws.specs.Within.{IsWithin}
-use Rattle.eh_frame.specs.Found.{EntriesStand, TableStands, IsPlaced}
-use Rattle.eh_frame.specs.Labels.{NamesPlace, PlacesAreLabels}
-use Rattle.eh_frame.specs.Marks.{HaveTwoTerms}
-use Rattle.eh_frame.specs.Pieces.{Piece, plain, Tables, piece_put, pieces_put, Takes}
-use Rattle.eh_frame.specs.Placing.{padded_log, entries_put, run_end, no_end, end_of, table_put, new_table, placed}
+use Rattle.table_pieces.specs.declared.ends.SectionEnd.{SectionEnd}
+use Rattle.table_pieces.specs.Ends.{behind_pieces, end_place, run_end, no_end, end_of}
+use Rattle.table_pieces.specs.Labels.{NamesPlace, PlacesAreLabels}
+use Rattle.table_pieces.specs.Pieces.{Piece, plain, Tables, piece_put, pieces_put, Takes}
+use Rattle.table_pieces.specs.Ready.{AreReady, SectionsKeepPlaces}
+use Rattle.table_pieces.specs.Standing.{Extends, OneExtends, HasEnd, Reaches}
+use Rattle.eh_frame.specs.Entries.{entry_pieces}
+use Rattle.eh_frame.specs.FoundTables.{EntriesStand, TableStands, IsPlaced}
+use Rattle.eh_frame.specs.Placing.{padded_log, entries_put, table_put, new_table, placed}
 use Rattle.eh_frame.specs.Reading.{EntriesRead}
-use Rattle.eh_frame.specs.Standing.{Extends, OneExtends, HasEnd, Reaches}
-use Rattle.eh_frame.specs.StandingPlaces.{FrameStands, LabelsStand}
+use Rattle.piece_laws.specs.HeldDistances.{NamesStay}
+use Rattle.piece_laws.specs.LaidTables.{IsSmall, IsLow, LaidTable, StandsTo}
 use Rattle.frame_laws.specs.LabelCounts.{AreWritten, BringsFew, LabelsAreFew}
-use Rattle.frame_laws.specs.PlacedTables.{IsCovered, AreReady, IsSmall, IsLow}
+use Rattle.frame_laws.specs.PlacedTables.{IsCovered, GoesOn}
 use Rattle.frame_laws.specs.TableReads.{EntriesFill, IsTableSection, TableReads, FrameTablesRead}
 use Rattle.frame_laws.proofs.Lists.{all_there}
-use Rattle.frame_laws.proofs.LaidMarks.{told_is}
-use Rattle.frame_laws.proofs.MarkSymbols.{LabelFacts, NamesStay}
-use Rattle.frame_laws.proofs.Parts.{stands_behind}
-use Rattle.frame_laws.proofs.SectionInFile as section_in_file
-use Rattle.frame_laws.proofs.TableSections.{PieceFacts, TableSection, image, base, kept, at_end, kept_long}
-use Rattle.frame_laws.proofs.PieceBytes.{StandsTo, run_is, run_enough}
-use Rattle.frame_laws.proofs.EntryBytes.{pieces_stay}
+use Rattle.frame_laws.proofs.PieceFacts.{LabelFacts, PieceFacts, at_end}
 use Rattle.frame_laws.proofs.EntryReading.{IsRising, entry_reads}
-use Rattle.frame_laws.proofs.PlacedFrames.{symbols_hold, frame_rising}
+use Rattle.frame_laws.proofs.PlacedFrames.{covered_grows, frame_rising}
 
 -- what is known of all frame tables
 pub record TableFacts : Type 0 where
   pub pieces : PieceFacts
-  pub two_terms : HaveTwoTerms
+  pub layouts : LayoutsKeepSections
+  pub keeping : SectionsKeepPlaces
   pub read : EntriesRead
-  pub shift : (items : List LaidItem) (before : ℕ) → before ≤ length items → All (λ item. item.offset < 2 ^ 64) items
-      → shift_in (placed_from 0 items) before ≡ wrapped (shift_of before 0 items)
   pub found : (frame : Frame) (frames : List Frame) (tables after : Tables) → All IsWithin tables.sections → placed (frame ∷ frames) tables ≡ Ok after
       → IsPlaced frame frames tables after
   pub behind : (section : ℕ) (pos : Pos) (frames : List Frame) (tables : Tables) → OneExtends section tables.sections (table_put section pos frames tables).sections
-  pub labels : LabelsStand
   pub few : LabelsAreFew
   pub reaches : (section : ℕ) (pos : Pos) (pieces : List Piece) (tables : Tables) (end : SectionEnd) → Reaches section tables.sections end
       → Reaches section (pieces_put section pos pieces tables).sections (behind_pieces pieces end)
@@ -77,47 +68,38 @@ entries_stay labels section common end (frame ∷ frames) tables symbol at there
     entries_stay labels section common (behind_pieces pieces end) frames next symbol at
     (labels.stays tables.symbols next.symbols symbol at (labels.pieces section frame.pos pieces tables) there)
 
-module _ (facts : TableFacts) (t : TableSection) (common : SectionEnd) (common_stands : StandsTo facts.pieces t common) where
+module _ (facts : TableFacts) (t : LaidTable) (common : SectionEnd) (common_stands : StandsTo t.held common) where
   -- behind the last entry the section ends
-  ends_there : (sections : List LooseSection) (end : SectionEnd) → sections ≡ t.sections → Reaches t.number sections end
-      → IsSomeAnd (slice_get t.laid t.number) (λ section. moved section.items (length section.items) (length section.bytes) ≡ at_end facts.pieces t end)
+  ends_there : (sections : List LooseSection) (end : SectionEnd) → slice_get sections t.number ≡ Some t.held → Reaches t.number sections end
+      → IsSomeAnd (slice_get t.laid t.number) (λ section. moved section.items (length section.items) (length section.bytes) ≡ at_end t end)
   ends_there sections end are reach =
       let has : HasEnd end t.held =
-      subst (λ (found : Option LooseSection). IsSomeAnd found (HasEnd end)) (ap (λ all. slice_get all t.number) are ∙ t.found) reach in
-      let long = kept_long facts.pieces t in
-      let items = has.items in
-      let bytes = has.bytes in
-      let count : length (kept facts.pieces t).items ≡ end.items = omega (arith, long, items) in
+      subst (λ (found : Option LooseSection). IsSomeAnd found (HasEnd end)) are reach in
+      let last = facts.pieces.file.ends.last t end has.items has.bytes in
       subst (λ (found : Option (SectionOf LaidItem)). IsSomeAnd found
-      (λ section. moved section.items (length section.items) (length section.bytes) ≡ at_end facts.pieces t end))
-      (sym (section_in_file.kept_there facts.pieces.file t.symbols t.sections t.laid t.number t.held t.is t.found t.takes t.low))
-      (ap (λ (n : ℕ). moved (kept facts.pieces t).items n (length t.held.bytes)) count ∙ ap (λ (n : ℕ). moved (kept facts.pieces t).items end.items n) bytes)
+      (λ section. moved section.items (length section.items) (length section.bytes) ≡ at_end t end)) (sym last.1) last.2
 
   -- the entries of all procedures read in the file, one behind the other
-  all_read : (end : SectionEnd) (frames : List Frame) (tables : Tables) → PieceAt (image facts.pieces t) (base facts.pieces t + at_end facts.pieces t end) []
-      → StandsTo facts.pieces t end → at_end facts.pieces t common ≤ at_end facts.pieces t end → PlacesAreLabels tables.symbols
+  all_read : (end : SectionEnd) (frames : List Frame) (tables : Tables) → StandsTo t.held end → at_end t common ≤ at_end t end → PlacesAreLabels tables.symbols
       → NamesStay (entries_put t.number (end_place t.number common) end frames tables).symbols t.symbols → All (IsRising t) frames
       → EntriesStand t.held t.number (end_place t.number common) end frames tables → Reaches t.number tables.sections end
-      → (entries_put t.number (end_place t.number common) end frames tables).sections ≡ t.sections
-      → EntriesFill (image_of t.symbols t.laid) t.symbols t.laid t.number (at_end facts.pieces t common) (at_end facts.pieces t end) frames
-  all_read end [] tables here stands behind known stays rising stand reach are = ends_there tables.sections end are reach
-  all_read end (frame ∷ frames) tables here stands behind known stays rising stand reach are =
+      → slice_get (entries_put t.number (end_place t.number common) end frames tables).sections t.number ≡ Some t.held
+      → EntriesFill (image_of t.symbols t.laid) t.symbols t.laid t.number (at_end t common) (at_end t end) frames
+  all_read end [] tables stands behind known stays rising stand reach are = ends_there tables.sections end are reach
+  all_read end (frame ∷ frames) tables stands behind known stays rising stand reach are =
       let place = end_place t.number common in
       let log = padded_log frames in
       let pieces = entry_pieces t.number end place log frame in
       let next = pieces_put t.number frame.pos pieces tables in
       let last = behind_pieces pieces end in
-      let one = entry_reads facts.pieces facts.two_terms t frame common log end (All-head (IsRising t) frame frames rising) facts.read tables here common_stands stands behind
+      let one = entry_reads facts.pieces t frame common log end (All-head (IsRising t) frame frames rising) facts.read tables common_stands stands behind
       known (λ symbol at there. stays symbol at (entries_stay facts.pieces.labels t.number place last frames next symbol at there)) stand.0 in
       let moves = one.0.reach in
-      let offset : at_end facts.pieces t last ≡ at_end facts.pieces t end + length one.1.entry =
-      moves ∙ ap (λ (bytes : List ℕ). at_end facts.pieces t end + length bytes) (sym one.2) in (
+      let offset : at_end t last ≡ at_end t end + length one.1.entry =
+      moves ∙ ap (λ (bytes : List ℕ). at_end t end + length bytes) (sym one.2) in (
         one.1,
-        subst (λ (offset : ℕ). EntriesFill (image_of t.symbols t.laid) t.symbols t.laid t.number (at_end facts.pieces t common) offset frames) offset
-            (all_read last frames next
-            (subst (λ at. PieceAt (image facts.pieces t) at []) (omega (arith, moves))
-            (stands_behind (image facts.pieces t) _ (base facts.pieces t + at_end facts.pieces t end) one.0.stands))
-            (pieces_stay facts.pieces t tables frame.pos end pieces stands stand.0) (omega (arith, moves, behind))
+        subst (λ (offset : ℕ). EntriesFill (image_of t.symbols t.laid) t.symbols t.laid t.number (at_end t common) offset frames) offset
+            (all_read last frames next (facts.pieces.file.ends.pieces t tables frame.pos end pieces stands stand.0) (omega (arith, moves, behind))
             (facts.pieces.labels.known tables.symbols next.symbols known (facts.pieces.labels.pieces t.number frame.pos pieces tables)) stays
             (All-tail (IsRising t) frame frames rising) stand.1 (facts.reaches t.number frame.pos pieces tables end reach) are),
       )
@@ -137,9 +119,9 @@ end_there : (section : ℕ) (sections : List LooseSection) (held : LooseSection)
 unfolding end_of
 end_there section sections held there = ap (λ found. option_map_or run_end found no_end) there
 
-module _ (facts : TableFacts) (frame : Frame) (frames : List Frame) (tables after : Tables) (laid : LaidSections) (ready : AreReady tables)
-    (covered : All (IsCovered tables.sections) (frame ∷ frames)) (is : layout_of after.symbols after.sections ≡ Ok laid) (low : IsLow after laid)
-    (made : placed (frame ∷ frames) tables ≡ Ok after) (put : IsPlaced frame frames tables after) where
+module _ (facts : TableFacts) (frame : Frame) (frames : List Frame) (tables after last : Tables) (laid : LaidSections) (ready : AreReady tables)
+    (covered : All (IsCovered tables.sections) (frame ∷ frames)) (is : layout_of last.symbols last.sections ≡ Ok laid) (low : IsLow last laid)
+    (put : IsPlaced frame frames tables after) (goes_on : GoesOn after last) where
   -- the symbols are those that were placed
   first_symbols : put.first.symbols ≡ tables.symbols
   first_symbols = elim put.begins [
@@ -167,14 +149,18 @@ module _ (facts : TableFacts) (frame : Frame) (frames : List Frame) (tables afte
 
   module _ (before held : LooseSection) (was : slice_get put.first.sections put.section ≡ Some before) (there : slice_get after.sections put.section ≡ Some held)
       (takes : takes_zeros_alone before ≡ false) (more : Extends before held) where
-    own : (shifts : List ℕ) × (slice_get laid put.section ≡ Some (kept_section after.symbols shifts held))
-    own = facts.pieces.file.layouts.section after.symbols after.sections laid put.section held is there
+    -- the section is as it was
+    stays : slice_get last.sections put.section ≡ Some held
+    stays = goes_on.kept put.section held there (ap (bytes_eq (codes ".eh_frame")) more.name ∙ first_named before was)
+
+    own : (shifts : List ℕ) × (slice_get laid put.section ≡ Some (kept_section last.symbols shifts held))
+    own = facts.layouts.section last.symbols last.sections laid put.section held is stays
 
     few_bytes : length held.bytes ≤ 2 ^ 30
     few_bytes =
-        let all = (all_there IsSmall laid put.section (kept_section after.symbols own.0 held) own.1 low.small).size in omega (arith, all)
+        let all = (all_there IsSmall laid put.section (kept_section last.symbols own.0 held) own.1 low.small).size in omega (arith, all)
 
-    few_labels : length after.symbols.symbols ≤ 2 ^ 24 + 2 ^ 31
+    few_labels : length last.symbols.symbols ≤ 2 ^ 24 + 2 ^ 31 + 2 ^ 30
     few_labels =
         let brings : BringsFew put.section put.first after =
         subst (λ (t : Tables). BringsFew put.section put.first t) (sym put.put)
@@ -185,34 +171,35 @@ module _ (facts : TableFacts) (frame : Frame) (frames : List Frame) (tables afte
         let same = ap (λ (map : SymbolMap). length map.symbols) first_symbols in
         let few = ready.few in
         let bytes = few_bytes in
-        omega (arith, count, same, few, bytes)
+        let behind = goes_on.few in
+        omega (arith, count, same, few, bytes, behind)
 
-    few_symbols : length after.symbols.symbols ≤ own_place
+    few_symbols : length last.symbols.symbols ≤ own_place
     few_symbols = let few = few_labels in omega (arith, few)
 
     -- the section of the table, in the end
-    abbrev section : TableSection
+    abbrev section : LaidTable
     section = record {
-      symbols = after.symbols;
-      sections = after.sections;
+      symbols = last.symbols;
+      sections = last.sections;
       laid = laid;
       number = put.section;
       held = held;
       is = is;
-      found = there;
+      found = stays;
       takes = ap (λ kind. kind == 8) more.kind ∙ takes;
-      low = all_there IsWithin after.sections put.section held there put.within;
+      within = goes_on.within;
       few = few_symbols;
-      small = λ kept found. all_there IsSmall laid put.section kept found low.small;
-      stand = symbols_hold tables.sections after.sections put.grows tables.symbols after.symbols ready.stand
-          (facts.labels frame frames tables after ready.within
-          (All-weaker (IsCovered tables.sections) (FrameStands tables.sections) (λ one is_covered. is_covered.stands) (frame ∷ frames) covered) made);
-      rows = low.rows;
-      told = told_is facts.pieces.file.layouts facts.shift after.symbols after.sections laid is put.within low.small;
+      stand = goes_on.stand;
+      low = record { small = low.small; rows = low.rows };
     }
 
-    abbrev pieces : PieceFacts
-    pieces = facts.pieces
+    -- each procedure rises in the layout
+    all_rising : All (IsRising section) (frame ∷ frames)
+    all_rising =
+        All-weaker (IsCovered tables.sections) (IsRising section)
+        (λ one is_covered. frame_rising facts.keeping facts.pieces.places section after.sections goes_on.grows one
+        (covered_grows facts.keeping tables.sections after.sections put.grows one is_covered)) (frame ∷ frames) covered
 
     -- the end of the section before the table, and behind the common entry
     abbrev start : SectionEnd
@@ -243,7 +230,7 @@ module _ (facts : TableFacts) (frame : Frame) (frames : List Frame) (tables afte
         let long : length (before.bytes ++ common_bytes) ≡ length before.bytes + 24 = length-append before.bytes common_bytes in
         omega (arith, first, last, long)
 
-    start_stands : StandsTo pieces section start
+    start_stands : StandsTo held start
     start_stands =
         let items = ap (λ (end : SectionEnd). end.items) start_is in
         let bytes = ap (λ (end : SectionEnd). end.bytes) start_is in
@@ -252,33 +239,24 @@ module _ (facts : TableFacts) (frame : Frame) (frames : List Frame) (tables afte
         record { items = omega (arith, items, all_items); bytes = omega (arith, bytes, all_bytes) }
 
     module _ (table : TableStands held put.section frame.pos (frame ∷ frames) put.first) where
-      behind_stands : StandsTo pieces section behind
+      behind_stands : StandsTo held behind
       behind_stands =
           let within = table.common.within in
           let bytes = behind_bytes in
-          record { items = run_enough pieces section frame.pos start behind.items start_stands.items table.run; bytes = omega (arith, within, bytes) }
+          record { items = facts.pieces.file.ends.items section frame.pos start behind.items start_stands.items table.run; bytes = omega (arith, within, bytes) }
 
-      -- where the common entry begins
-      start_place : moved (kept pieces section).items behind.items start.bytes ≡ at_end pieces section start
-      start_place = run_is pieces section frame.pos start behind.items table.run
+      behind_place : at_end section behind ≡ at_end section start + 24
+      behind_place = facts.pieces.file.ends.run section frame.pos start behind 24 table.run behind_bytes
 
-      behind_place : at_end pieces section behind ≡ at_end pieces section start + 24
-      behind_place = let bytes = behind_bytes in let place = start_place in omega (arith, bytes, place)
-
-      common_stands : PieceAt (image pieces section) (base pieces section + at_end pieces section start) common_bytes
+      common_stands : PieceAt (image_of last.symbols laid) (section_offset last.symbols laid put.section + at_end section start) common_bytes
       common_stands =
-          subst (λ (at : ℕ). PieceAt (image pieces section) (base pieces section + at) common_bytes) start_place
-          (section_in_file.plain_stands pieces.file after.symbols after.sections laid put.section held is there section.takes section.low behind.items start.bytes
-          common_bytes table.common)
-
-      nothing_behind : PieceAt (image pieces section) (base pieces section + at_end pieces section behind) []
-      nothing_behind =
-          let place = behind_place in
-          subst (λ at. PieceAt (image pieces section) at []) (omega (arith, place))
-          (stands_behind (image pieces section) common_bytes (base pieces section + at_end pieces section start) common_stands)
+          let first : SectionEnd = record { items = behind.items; bytes = start.bytes; in_run = true } in
+          let place = facts.pieces.file.ends.run section frame.pos start first 0 table.run (omega arith) in
+          subst (λ (at : ℕ). PieceAt (image_of last.symbols laid) (section_offset last.symbols laid put.section + at) common_bytes) (omega (arith, place))
+          (facts.pieces.file.ends.plain section behind.items start.bytes common_bytes table.common)
 
       -- the table reads in the file
-      table_reads : TableReads (image_of after.symbols laid) after.symbols laid (frame ∷ frames)
+      table_reads : TableReads (image_of last.symbols laid) last.symbols laid (frame ∷ frames)
       table_reads =
           let place = behind_place in
           let known : PlacesAreLabels with_common.symbols = subst PlacesAreLabels (sym first_symbols) ready.named in
@@ -286,35 +264,36 @@ module _ (facts : TableFacts) (frame : Frame) (frames : List Frame) (tables afte
             number = put.section;
             section = subst (λ found. IsSomeAnd found IsTableSection) (sym own.1)
                 (record { named = ap (bytes_eq (codes ".eh_frame")) more.name ∙ first_named before was; filed = section.takes });
-            common = at_end pieces section start;
+            common = at_end section start;
             stands = common_stands;
-            entries = subst (λ (offset : ℕ). EntriesFill (image_of after.symbols laid) after.symbols laid put.section (at_end pieces section start) offset (frame ∷ frames)) place
-                (all_read facts section start start_stands behind (frame ∷ frames) with_common nothing_behind behind_stands (omega (arith, place)) known
-                (λ symbol at there. subst (λ (t : Tables). NamesPlace t.symbols symbol at) (sym put.put) there)
-                (All-weaker (IsCovered tables.sections) (IsRising section) (frame_rising facts.pieces.file.layouts section tables.sections put.grows low.small) (frame ∷ frames) covered)
-                table.entries (facts.common_reaches put.section frame.pos put.first put.takes) (ap (λ (t : Tables). t.sections) (sym put.put)));
+            entries = subst (λ (offset : ℕ). EntriesFill (image_of last.symbols laid) last.symbols laid put.section (at_end section start) offset (frame ∷ frames)) place
+                (all_read facts section start start_stands behind (frame ∷ frames) with_common behind_stands (omega (arith, place)) known
+                (λ symbol at named. facts.pieces.labels.stays after.symbols last.symbols symbol at goes_on.labels
+                (subst (λ (t : Tables). NamesPlace t.symbols symbol at) (sym put.put) named))
+                all_rising table.entries (facts.common_reaches put.section frame.pos put.first put.takes)
+                (ap (λ (t : Tables). slice_get t.sections put.section) (sym put.put) ∙ there));
             few = few_labels;
           }
 
   by_last : (before : LooseSection) → slice_get put.first.sections put.section ≡ Some before → takes_zeros_alone before ≡ false → (found : Option LooseSection)
       → slice_get after.sections put.section ≡ found → IsSomeAnd found (λ held. TableStands held put.section frame.pos (frame ∷ frames) put.first)
-      → (now : LooseSection) × (slice_get after.sections put.section ≡ Some now) × Extends before now → TableReads (image_of after.symbols laid) after.symbols laid (frame ∷ frames)
+      → (now : LooseSection) × (slice_get after.sections put.section ≡ Some now) × Extends before now → TableReads (image_of last.symbols laid) last.symbols laid (frame ∷ frames)
   by_last before was takes None there table more = absurd table
   by_last before was takes (Some held) there table more =
       table_reads before held was there takes (subst (Extends before) (same_Some more.0 held (sym more.1 ∙ there)) more.2) table
 
   by_first : (found : Option LooseSection) → slice_get put.first.sections put.section ≡ found → IsSomeAnd found (λ held. takes_zeros_alone held ≡ false)
-      → TableReads (image_of after.symbols laid) after.symbols laid (frame ∷ frames)
+      → TableReads (image_of last.symbols laid) last.symbols laid (frame ∷ frames)
   by_first None was takes = absurd takes
   by_first (Some before) was takes =
       let extends = subst (λ (t : Tables). OneExtends put.section put.first.sections t.sections) (sym put.put)
       (facts.behind put.section frame.pos (frame ∷ frames) put.first) in
       by_last before was takes (slice_get after.sections put.section) refl put.stands (extends.there before was)
 
-  pub reads : TableReads (image_of after.symbols laid) after.symbols laid (frame ∷ frames)
+  pub reads : TableReads (image_of last.symbols laid) last.symbols laid (frame ∷ frames)
   reads = by_first (slice_get put.first.sections put.section) refl put.takes.filled
 
 -- whatever was placed, its table reads
 pub tables_read : TableFacts → FrameTablesRead
-tables_read facts frame frames tables after laid ready covered made is low =
-    reads facts frame frames tables after laid ready covered is low made (facts.found frame frames tables after ready.within made)
+tables_read facts frame frames tables after last laid ready covered made goes_on is low =
+    reads facts frame frames tables after last laid ready covered is low (facts.found frame frames tables after ready.within made) goes_on

@@ -6,7 +6,8 @@ use Rattle.cfi_rows.specs.declared.rows.CfiOp.{CfiOp}
 use Rattle.cfi_rows.specs.declared.rows.CfiOp.TheVariants.{DefCfa, DefCfaRegister, DefCfaOffset, Set, Restore, Remember, RestoreState}
 use Rattle.cfi_rows.specs.declared.rows.Rule.{Rule}
 use Rattle.cfi_rows.specs.declared.rows.Rule.TheVariants.{Unspecified, Undefined, SameValue, Offset, ValueOffset, Register}
-use Rattle.cfi_rows.specs.Written.{uleb_bytes, sleb_bytes, slots, cfa_offset, rule_offset, rule_written, of_register, written}
+use Rattle.leb128.specs.Digits.{uleb_bytes, sleb_bytes}
+use Rattle.cfi_rows.specs.Written.{slots, cfa_offset, rule_offset, rule_written, of_register, written}
 use Rattle.eh_frame.specs.Entries.{op_code}
 
 -- what is there has at least one byte

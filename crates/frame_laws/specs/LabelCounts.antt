@@ -3,7 +3,7 @@ use Rattle.std.specs.Prelude.{ℕ, ◌+◌, ◌*◌, ◌≤◌, List, length, Al
 use Rattle.asm_base.specs.declared.positions.Pos.{Pos}
 use Rattle.cfi_directives.specs.declared.frames.Frame.{Frame}
 use Rattle.cfi_rows.specs.Written.{written}
-use Rattle.eh_frame.specs.Pieces.{Tables, Takes}
+use Rattle.table_pieces.specs.Pieces.{Tables, Takes}
 use Rattle.eh_frame.specs.Placing.{table_put}
 
 -- each instruction of the procedures can be encoded

@@ -1,8 +1,8 @@
-//! What the bytes of a frame table in the object file say, and the distances that it holds.
+//! What the bytes of a frame table in the object file say.
 #![tactic(auto)]
 
-mod distances;
+mod counts;
 mod laws;
 
-pub use distances::{distances_are_held, labels_are_few};
+pub use counts::labels_are_few;
 pub use laws::frame_tables_read;

@@ -67,6 +67,7 @@ module _ (pos : Pos) (there after : Placed) (stand : PlacesStand there) (number 
   directive_found directive.Lcomm tokens is = data_found false bss in_bss is
   directive_found directive.Ident tokens is = moved_found (section_number (codes ".comment") there.sections) refl is
   directive_found directive.File tokens is = absurd (none-some put is)
+  directive_found directive.Loc tokens is = absurd (none-some put is)
   directive_found (directive.Error said) tokens is = absurd (none-some put is)
   directive_found directive.Warning tokens is = absurd (none-some put is)
   directive_found (directive.Syntax syntax) tokens is = absurd (none-some put is)

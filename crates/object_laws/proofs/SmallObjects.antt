@@ -48,7 +48,7 @@ next_few index (own ∷ found) =
     let more = next_few (index + header_count own) found in
     omega (arith, one, more)
 
-headers_few : (symbols : SymbolMap) (sections : LaidSections) → IsSmallSource symbols sections → symbol_table_index symbols sections + 3 ≤ 2 * 30004 + 4
+headers_few : (symbols : SymbolMap) (sections : LaidSections) → IsSmallSource symbols sections → symbol_table_index symbols sections + 3 ≤ 2 * 30005 + 4
 headers_few symbols sections small =
     let few = next_few 1 (relocations_of symbols sections) in
     let long = relocations_long symbols sections 0 sections in

@@ -8,10 +8,10 @@ use Rattle.elf_object.specs.Limits.{NumbersFit}
 use Rattle.object_laws.specs.ObjectLimits.{ObjectFits, symbol_table_index}
 use Rattle.object_laws.specs.SymbolReading.{header_index}
 
--- there are at most 30,004 sections, whose names have at most 2^16 bytes, so few symbols and files that their entries can be counted beside those of
+-- there are at most 30,005 sections, whose names have at most 2^16 bytes, so few symbols and files that their entries can be counted beside those of
 -- sections, and names of symbols and files take at most 2^31 bytes
 pub record IsSmallSource (symbols : SymbolMap) (sections : LaidSections) : Type 0 where
-  pub section_count : length sections ≤ 30004
+  pub section_count : length sections ≤ 30005
   pub section_names : All (λ section. length section.name ≤ 2 ^ 16) sections
   pub symbol_count : length symbols.symbols + length symbols.files < 2 ^ 32 - 2 ^ 17
   pub name_bytes : names_size symbols ≤ 2 ^ 31
@@ -23,7 +23,7 @@ first_reserved = 0xff00
 -- the headers of the file are those up to that of the symbol table, and those of the names of symbols and of sections behind it: at most two for each
 -- section, and four more; so the index of a section, which st_shndx has for the symbols in it, is neither 0 nor a reserved one
 pub record HasFewHeaders (symbols : SymbolMap) (sections : LaidSections) : Type 0 where
-  pub count : symbol_table_index symbols sections + 3 ≤ 2 * 30004 + 4
+  pub count : symbol_table_index symbols sections + 3 ≤ 2 * 30005 + 4
   pub all : symbol_table_index symbols sections + 3 < first_reserved
   pub own : (number : ℕ) (section : SectionOf LaidItem) → slice_get sections number ≡ Some section
       → (0 < header_index symbols sections number) × (header_index symbols sections number < first_reserved)

@@ -89,7 +89,8 @@ bare_read_back settled one_way read table facts no_warn worked_out handed object
     let laid = from.laid in
     let all = all_placed no_warn worked_out handed object from s placed reached in
     let stands = facts.bare_stands before s after empty placed whole coded begins reached.places all written in
-    let grows = (is_framed table (with_worked_out worked_out whole) tables (facts.within (before ++ s ∷ after) empty whole all begins) from.frames).grows in
+    let grows = (is_framed table (with_worked_out worked_out whole) tables (facts.within (before ++ s ∷ after) empty whole all begins)
+    (record { framed = from.framed; frames = from.frames; lines = from.lines })).grows in
     let holds = bytes_stay whole.sections tables.sections placed.current (next_item placed) (next_offset placed) coded.bytes grows stands in
     let symbols = tables.symbols in
     let at = file_place symbols laid placed.current (next_item placed) (next_offset placed) in

@@ -31,7 +31,8 @@ use Rattle.readback_laws.proofs.JumpsInObject.{JumpFacts, jumps_read_back}
 use Rattle.readback_laws.proofs.Lists.{all_there}
 use Rattle.readback_laws.proofs.SettledObjects.{AreSettled, drop_stands}
 use Rattle.readback_laws.proofs.FramedSymbols.{AreCovered}
-use Rattle.readback_laws.proofs.FramesInObject.{frames_read_back}
+use Rattle.readback_laws.proofs.FramesInObject.{frames_read_back, few_symbols}
+use Rattle.readback_laws.proofs.LinedSections.{LineFacts}
 use Rattle.readback_laws.proofs.BareInObject.{bare_read_back}
 use Rattle.readback_laws.proofs.ReachedStatements.{all_placed, are_reached}
 
@@ -60,7 +61,8 @@ codes_read_back settled one_way fills places unknown table facts no_warn worked_
     let offset = next_offset placed in
     let code = insn.coded.made.bytes in
     let fields = code_fields text insn.coded.forms insn.coded.made in
-    let with_table = is_framed table (with_worked_out worked_out whole) tables (facts.within (before ++ s ∷ after) empty whole all begins) from.frames in
+    let with_table = is_framed table (with_worked_out worked_out whole) tables (facts.within (before ++ s ∷ after) empty whole all begins)
+    (record { framed = from.framed; frames = from.frames; lines = from.lines }) in
     let stands = code_stays whole.sections tables.sections number item offset pos code fields with_table.grows insn.stands in
     let section = stands.section in
     let within : IsWithin section = all_there IsWithin tables.sections number section stands.found with_table.within in
@@ -80,14 +82,15 @@ codes_read_back settled one_way fills places unknown table facts no_warn worked_
     }
 
 -- each instruction that is handed out reads back, and so does the frame table
-pub reads_back : AreSettled → ReadsOneWay → BareCodesRead → EncodingsFill → EncodingsApart → EncodingsHoldUnknown → TableFacts → PlaceFacts → JumpFacts → FrameTablesRead
-    → (no_warn : Bool) (worked_out : Option (List Frame)) (handed : List TokenStatement) (object : List ℕ) (from : Origin no_warn worked_out handed object)
+pub reads_back : AreSettled → ReadsOneWay → BareCodesRead → EncodingsFill → EncodingsApart → EncodingsHoldUnknown → TableFacts → LineFacts → PlaceFacts → JumpFacts
+    → FrameTablesRead → (no_warn : Bool) (worked_out : Option (List Frame)) (handed : List TokenStatement) (object : List ℕ) (from : Origin no_warn worked_out handed object)
     → AreCovered worked_out from.whole → ReadsBack no_warn worked_out handed object
-reads_back settled one_way read fills places unknown table facts jumps tables_read no_warn worked_out handed object from covered = record {
+reads_back settled one_way read fills places unknown table lined facts jumps tables_read no_warn worked_out handed object from covered = record {
   made = from;
   reached = are_reached no_warn worked_out handed object from;
   bare = bare_read_back settled one_way read table facts no_warn worked_out handed object from;
   coded = codes_read_back settled one_way fills places unknown table facts no_warn worked_out handed object from;
   jumps = jumps_read_back settled one_way table facts jumps no_warn worked_out handed object from covered;
-  frames = frames_read_back settled table facts jumps tables_read no_warn worked_out handed object from covered;
+  frames = frames_read_back settled table lined facts jumps no_warn worked_out handed object from covered tables_read;
+  few = few_symbols settled table lined facts jumps no_warn worked_out handed object from covered tables_read;
 }

@@ -1,4 +1,4 @@
--- The procedures of statements, or the frames in place of them, cover places of their sections, and what was placed stays behind their frame table.
+-- The procedures of statements, or the frames in place of them, cover places of their sections, and what was placed stays behind its tables.
 use Rattle.std.proofs.Common.{◌≡◌, ℕ, Bool, List, ◌++◌, All, Option, None, Some, Ok, option_to_list, sym, ap, ◌∙◌, subst, append-nil}
 use Rattle.asm_lines.specs.NextStatements.{TokenStatement}
 use Rattle.asm_values.specs.State.{Placed, nothing_placed}
@@ -10,7 +10,7 @@ use Rattle.cfi_directives.specs.Procedures.{frames_of}
 use Rattle.frame_laws.specs.PlacedTables.{IsCovered}
 use Rattle.section_laws.specs.Within.{AreWithin}
 use Rattle.readback_laws.specs.Origins.{FramesAreReady, IsContinuedBy, Origin, with_worked_out}
-use Rattle.readback_laws.proofs.FramedSections.{TableFacts, is_framed}
+use Rattle.readback_laws.proofs.FramedSections.{TableFacts, ComesTo, is_framed}
 use Rattle.readback_laws.proofs.FramedSymbols.{AreCovered, covered_stand, frame_stands, labels_framed}
 
 -- what is known of the places of all that statements place
@@ -49,14 +49,16 @@ module _ (facts : StandingFacts) (no_warn : Bool) (worked_out : Option (List Fra
       let empty = nothing_placed no_warn in
       covered_by worked_out from.whole (facts.places handed empty from.whole from.places (facts.starts no_warn)) (facts.ordered handed no_warn from.whole from.places) ready
 
-  -- what was placed is continued by its frame table
+  -- what was placed is continued by its tables
   pub are_continued : TableFacts → IsContinuedBy from.whole from.tables
   are_continued table =
       let full = with_worked_out worked_out from.whole in
       let within = facts.within handed (nothing_placed no_warn) from.whole from.places (facts.begins no_warn) in
-      let with_table = is_framed table full from.tables within from.frames in
+      let comes : ComesTo full from.tables = record { framed = from.framed; frames = from.frames; lines = from.lines } in
+      let with_table = is_framed table full from.tables within comes in
       record {
         grows = with_table.grows;
         within = with_table.within;
-        labels = labels_framed table full from.tables within (covered_stand worked_out from.whole are_covered) from.frames;
+        labels = labels_framed table full from.tables within (covered_stand worked_out from.whole are_covered)
+            (table.rows handed no_warn from.whole from.places) comes;
       }

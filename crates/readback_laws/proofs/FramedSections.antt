@@ -1,5 +1,5 @@
--- What was placed stands in the sections with the frame table where it stood before.
-use Rattle.std.proofs.Common.{◌≡◌, ℕ, ◌+◌, ◌-◌, ◌≤◌, inr, List, [], ◌∷◌, ◌++◌, All, Option, Some, Ok, length, take, drop, refl, sym, ap, ◌∙◌, subst, arith, append_assoc, append-nil, length-append, length-drop}
+-- What was placed stands in the sections with the tables where it stood before.
+use Rattle.std.proofs.Common.{◌≡◌, ℕ, ◌+◌, ◌-◌, ◌≤◌, inr, Bool, List, [], ◌∷◌, ◌++◌, All, Option, Some, Ok, length, take, drop, refl, sym, ap, ◌∙◌, subst, arith, append_assoc, append-nil, length-append, length-drop}
 use Rattle.std.specs.Prelude.{map, slice_get, slice_range}
 use Rattle.std.proofs.lemmas.List.{take-append-le, drop-append-le}
 use Rattle.std.proofs.lemmas.List.Elements.{All-nil, All-append, All-weaker}
@@ -11,27 +11,43 @@ use Rattle.asm_frags.specs.PlainBytes.{IsBeside}
 use Rattle.asm_frags.specs.Writing.{LooseItem, LooseSection}
 use Rattle.cfi_directives.specs.declared.frames.Frame.{Frame}
 use Rattle.cfi_directives.specs.Procedures.{frames_of}
-use Rattle.eh_frame.specs.Pieces.{Tables, tables_of}
+use Rattle.table_pieces.specs.Pieces.{Tables, tables_of}
 use Rattle.eh_frame.specs.Placing.{placed}
-use Rattle.eh_frame.specs.Standing.{Extends}
-use Rattle.eh_frame.specs.Found.{IsPlaced}
-use Rattle.eh_frame.specs.StandingPlaces.{LabelsStand}
+use Rattle.table_pieces.specs.Standing.{AllExtend, Extends}
+use Rattle.eh_frame.specs.FoundTables.{IsPlaced}
+use Rattle.eh_frame.specs.StandingFrames.{LabelsStand}
+use Rattle.line_table.specs.Additions.{OthersStay}
+use Rattle.line_table.specs.Placing as line_table
+use Rattle.line_table.specs.StandingLines as line_labels
 use Rattle.item_bytes.specs.declared.jumps.Condition.{Condition}
-use Rattle.asm_values.specs.State.{Placed}
+use Rattle.asm_lines.specs.NextStatements.{TokenStatement}
+use Rattle.asm_values.specs.State.{Placed, nothing_placed}
+use Rattle.asm_place.specs.Sources.{place_all}
 use Rattle.section_laws.specs.Within.{AreWithin}
 use Rattle.asm_place.specs.Instructions.{with_more, IsContinued, Grows, StandsAt}
 use Rattle.asm_place.specs.CodePlaces.{FieldInCode, blanked, field_in, CodeStandsAt}
 use Rattle.asm_place.specs.JumpPlaces.{JumpStandsAt}
-use Rattle.readback_laws.specs.Origins.{framed}
+use Rattle.readback_laws.specs.Origins.{framed_of}
 use Rattle.readback_laws.proofs.Lists.{get_append}
+use Rattle.readback_laws.proofs.StandingRows.{RowsStand}
 
--- what is known of frame tables: all that was in the sections stays, and the places of their labels stand
+-- what is known of frame tables and line tables: all that was in the sections stays, and the places of their labels stand, where those of rows do
 pub record TableFacts : Type 0 where
   pub put : (frame : Frame) (frames : List Frame) (tables after : Tables) → AreWithin tables.sections → placed (frame ∷ frames) tables ≡ Ok after
       → IsPlaced frame frames tables after
   pub labels : LabelsStand
+  pub others : OthersStay
+  pub line_labels : line_labels.LabelsStand
+  pub rows : (statements : List TokenStatement) (no_warn : Bool) (whole : Placed) → place_all statements (nothing_placed no_warn) ≡ Ok whole
+      → RowsStand whole.sections whole.lines
 
--- the sections with the frame table continue those that were placed, and what is in them stands within their bytes
+-- what was placed comes to these tables: its frame table, and its line table behind that
+pub record ComesTo (whole : Placed) (tables : Tables) : Type 0 where
+  pub framed : Tables
+  pub frames : framed_of whole ≡ Ok framed
+  pub lines : line_table.placed whole.lines framed ≡ Ok tables
+
+-- the sections with the tables continue those that were placed, and what is in them stands within their bytes
 pub record IsFramed (before after : List LooseSection) : Type 0 where
   pub grows : Grows before after
   pub within : AreWithin after
@@ -78,7 +94,44 @@ not_grown before after same =
       kept = λ number section there. subst (IsContinued section) (sym there) (continued_not section);
     })
 
-framed_by : TableFacts → (frames : List Frame) (tables after : Tables) → AreWithin tables.sections → placed frames tables ≡ Ok after → IsFramed tables.sections after.sections
+-- all sections that are extended are continued
+pub all_continued : (before after : List LooseSection) → AllExtend before after → Grows before after
+all_continued before after extend = record {
+  kept = λ number section there.
+      let now = extend number section there in
+      continued section (slice_get after number) now.0 now.1 now.2;
+}
+
+-- a section that is continued twice is continued
+continued_on : (section : LooseSection) (found last : Option LooseSection) → IsContinued section found → ((s : LooseSection) → found ≡ Some s → IsContinued s last)
+    → IsContinued section last
+continued_on section found last one later =
+    let between = with_more section one.bytes one.fields one.items in
+    let two = later between one.there in
+    let longer = length-append section.bytes one.bytes in
+    record {
+      bytes = one.bytes ++ two.bytes;
+      fields = one.fields ++ two.fields;
+      items = one.items ++ two.items;
+      there = two.there ∙ ap Some (extended section (with_more between two.bytes two.fields two.items) (one.bytes ++ two.bytes) (one.fields ++ two.fields)
+          (one.items ++ two.items) refl refl refl refl (append_assoc section.bytes one.bytes two.bytes)
+          (append_assoc section.fields one.fields two.fields) (append_assoc section.items one.items two.items));
+      fields_behind = All-append (λ (field : Field). length section.bytes ≤ field.offset) one.fields two.fields one.fields_behind
+          (All-weaker (λ (field : Field). length (section.bytes ++ one.bytes) ≤ field.offset) (λ (field : Field). length section.bytes ≤ field.offset)
+          (λ field behind. omega (arith, longer, behind)) two.fields two.fields_behind);
+      items_behind = All-append (λ (item : LooseItem). length section.bytes ≤ item.offset) one.items two.items one.items_behind
+          (All-weaker (λ (item : LooseItem). length (section.bytes ++ one.bytes) ≤ item.offset) (λ (item : LooseItem). length section.bytes ≤ item.offset)
+          (λ item behind. omega (arith, longer, behind)) two.items two.items_behind);
+    }
+
+-- so what grows twice grows
+grown_on : (before between after : List LooseSection) → Grows before between → Grows between after → Grows before after
+grown_on before between after first later = record {
+  kept = λ number section there. continued_on section _ _ (first.kept number section there) (λ s is. later.kept number s is);
+}
+
+-- the sections with the frame table
+pub framed_by : TableFacts → (frames : List Frame) (tables after : Tables) → AreWithin tables.sections → placed frames tables ≡ Ok after → IsFramed tables.sections after.sections
 unfolding placed
 framed_by facts [] tables after within is =
     let same : tables ≡ after = cc in
@@ -88,18 +141,18 @@ framed_by facts [] tables after within is =
     }
 framed_by facts (frame ∷ frames) tables after within is =
     let put = facts.put frame frames tables after within is in
-    record {
-      grows = record {
-        kept = λ number section there.
-            let now = put.grows number section there in
-            continued section (slice_get after.sections number) now.0 now.1 now.2;
-      };
-      within = put.within;
-    }
+    record { grows = all_continued tables.sections after.sections put.grows; within = put.within }
 
--- the sections with the frame table of what was placed
-pub is_framed : TableFacts → (whole : Placed) (tables : Tables) → AreWithin whole.sections → framed whole ≡ Ok tables → IsFramed whole.sections tables.sections
-is_framed facts whole tables within is = framed_by facts (frames_of whole.procedures) (tables_of whole.table.symbols whole.sections) tables within is
+-- the sections with the tables of what was placed
+pub is_framed : TableFacts → (whole : Placed) (tables : Tables) → AreWithin whole.sections → ComesTo whole tables → IsFramed whole.sections tables.sections
+is_framed facts whole tables within is =
+    let framed = is.framed in
+    let first = framed_by facts (frames_of whole.procedures) (tables_of whole.table.symbols whole.sections) framed within is.frames in
+    let stays = facts.others.stays whole.lines framed tables is.lines in
+    record {
+      grows = grown_on whole.sections framed.sections tables.sections first.grows (all_continued framed.sections tables.sections stays.grows);
+      within = facts.others.within whole.lines framed tables is.lines first.within;
+    }
 
 -- WHAT STANDS IN A SECTION
 

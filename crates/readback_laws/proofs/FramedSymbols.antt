@@ -1,5 +1,5 @@
--- Symbols stand in the sections with the frame table, and those that it brings are labels.
-use Rattle.std.proofs.Common.{◌≡◌, ℕ, zero, suc, ◌<◌, List, Option, [], ◌∷◌, ◌++◌, All, Some, Ok, length, sym, ap, ◌∙◌, subst, arith, append-nil, length-append}
+-- Symbols stand in the sections with the tables, and those that these bring are labels.
+use Rattle.std.proofs.Common.{◌≡◌, ℕ, zero, suc, ◌<◌, List, Option, [], ◌∷◌, ◌++◌, All, Some, Ok, length, sym, ap, ◌∙◌, subst, arith, append_assoc, append-nil, length-append}
 use Rattle.std.proofs.lemmas.List.Elements.{All-nil, All-head, All-tail, All-append, All-weaker}
 use Rattle.std.proofs.lemmas.Option.{none-some}
 use Rattle.asm_expr.specs.Forms.{Form}
@@ -12,17 +12,20 @@ use Rattle.asm_symbols.specs.SymbolMap.{SymbolMap}
 use Rattle.cfi_directives.specs.declared.frames.Frame.{Frame}
 use Rattle.cfi_directives.specs.declared.frames.PlacedOp.{PlacedOp}
 use Rattle.cfi_directives.specs.Procedures.{frames_of}
-use Rattle.eh_frame.specs.Pieces.{Tables, tables_of}
+use Rattle.table_pieces.specs.Pieces.{Tables, tables_of}
 use Rattle.eh_frame.specs.Placing.{placed}
-use Rattle.eh_frame.specs.StandingPlaces.{HoldsItems, FrameStands, LabelStands, GetsStanding}
+use Rattle.table_pieces.specs.StandingPlaces.{HoldsItems, LabelStands, GetsStanding}
+use Rattle.eh_frame.specs.StandingFrames.{FrameStands}
+use Rattle.line_directives.specs.Meanings.{RowAt, rows_of}
 use Rattle.asm_values.specs.State.{Placed}
 use Rattle.section_laws.specs.Within.{AreWithin}
 use Rattle.asm_place.specs.Instructions.{with_more, Grows}
 use Rattle.asm_place.specs.SymbolPlaces.{HasItems, MeaningStands, SymbolStands, SymbolsStand, ProcedureStands}
 use Rattle.frame_laws.specs.PlacedTables.{IsCovered}
-use Rattle.readback_laws.specs.Origins.{framed, procedures_by}
-use Rattle.readback_laws.proofs.FramedSections.{TableFacts}
+use Rattle.readback_laws.specs.Origins.{procedures_by}
+use Rattle.readback_laws.proofs.FramedSections.{TableFacts, ComesTo, all_continued, framed_by}
 use Rattle.readback_laws.proofs.JumpFields.{StandUpTo}
+use Rattle.readback_laws.proofs.StandingRows.{RowsStand}
 
 -- THE PLACES OF PROCEDURES
 
@@ -38,7 +41,7 @@ frame_stands sections frame stands = record {
 }
 
 -- the labels of a table stand
-labels_by : TableFacts → (frames : List Frame) (tables after : Tables) → AreWithin tables.sections → All (FrameStands tables.sections) frames
+pub labels_by : TableFacts → (frames : List Frame) (tables after : Tables) → AreWithin tables.sections → All (FrameStands tables.sections) frames
     → placed frames tables ≡ Ok after → GetsStanding after.sections tables.symbols after.symbols
 unfolding placed
 labels_by facts [] tables after within stand is =
@@ -47,11 +50,32 @@ labels_by facts [] tables after within stand is =
     (record { labels = []; all = sym (append-nil tables.symbols.symbols); each = All-nil (LabelStands tables.sections) })
 labels_by facts (frame ∷ frames) tables after within stand is = facts.labels frame frames tables after within stand is
 
--- so do those of the table of what was placed
-pub labels_framed : TableFacts → (whole : Placed) (tables : Tables) → AreWithin whole.sections → All (FrameStands whole.sections) (frames_of whole.procedures) → framed whole ≡ Ok tables
-    → GetsStanding tables.sections whole.table.symbols tables.symbols
-labels_framed facts whole tables within stand is =
-    labels_by facts (frames_of whole.procedures) (tables_of whole.table.symbols whole.sections) tables within stand is
+-- what stands in its section does so behind more
+holds_grow : (before after : List LooseSection) (number items : ℕ) → Grows before after → HoldsItems before number items → HoldsItems after number items
+holds_grow before after number items grows has =
+    let later = grows.kept number has.held has.there in
+    let enough = has.enough in
+    record { held = with_more has.held later.bytes later.fields later.items; there = later.there; enough = omega (arith, enough, length-append has.held.items later.items) }
+
+-- so do those of the tables of what was placed
+pub labels_framed : TableFacts → (whole : Placed) (tables : Tables) → AreWithin whole.sections → All (FrameStands whole.sections) (frames_of whole.procedures)
+    → RowsStand whole.sections whole.lines → ComesTo whole tables → GetsStanding tables.sections whole.table.symbols tables.symbols
+labels_framed facts whole tables within stand rows is =
+    let start = tables_of whole.table.symbols whole.sections in
+    let framed = is.framed in
+    let table = framed_by facts (frames_of whole.procedures) start framed within is.frames in
+    let more = all_continued framed.sections tables.sections (facts.others.stays whole.lines framed tables is.lines).grows in
+    let first = labels_by facts (frames_of whole.procedures) start framed within stand is.frames in
+    let second = facts.line_labels rows.directives whole.lines framed tables table.within rows.taken
+    (λ section. All-weaker (λ (row : RowAt). HoldsItems whole.sections section row.0.item) (λ (row : RowAt). HoldsItems framed.sections section row.0.item)
+    (λ row has. holds_grow whole.sections framed.sections section row.0.item table.grows has) (rows_of section rows.directives) (rows.stand section)) is.lines in
+    record {
+      labels = first.labels ++ second.labels;
+      all = second.all ∙ ap (λ (symbols : List Symbol). symbols ++ second.labels) first.all ∙ append_assoc whole.table.symbols.symbols first.labels second.labels;
+      each = All-append (LabelStands tables.sections) first.labels second.labels
+          (All-weaker (LabelStands framed.sections) (LabelStands tables.sections)
+          (λ label stands. (stands.0, stands.1, holds_grow framed.sections tables.sections _ _ more stands.2)) first.labels first.each) second.each;
+    }
 
 -- the procedures of what was placed, or the frames in place of them, cover places of their sections
 abbrev pub AreCovered : Option (List Frame) → Placed → Type 0

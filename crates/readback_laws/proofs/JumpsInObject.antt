@@ -50,10 +50,10 @@ use Rattle.asm_place.specs.JumpPlaces.{IsJump, jump_form, items_so_far, jump_fie
 use Rattle.asm_place.specs.Sources.{pos_at, place_all}
 use Rattle.x86_insn.specs.declared.amounts.FieldKind.TheVariants as kind
 use Rattle.cfi_directives.specs.declared.frames.Frame.{Frame}
-use Rattle.eh_frame.specs.Pieces.{Tables}
-use Rattle.readback_laws.specs.Origins.{Origin, framed, with_worked_out}
+use Rattle.table_pieces.specs.Pieces.{Tables}
+use Rattle.readback_laws.specs.Origins.{Origin, with_worked_out}
 use Rattle.readback_laws.specs.Instructions.{file_place, final_value, has_no_bits, jump_value, LeadsToLabel, JumpReadsAt, JumpReadsBack, JumpsReadBack}
-use Rattle.readback_laws.proofs.FramedSections.{TableFacts, is_framed, jump_stays}
+use Rattle.readback_laws.proofs.FramedSections.{TableFacts, ComesTo, is_framed, jump_stays}
 use Rattle.readback_laws.proofs.FramedSymbols.{AreCovered, covered_stand, labels_framed, symbols_framed, forms_framed}
 use Rattle.readback_laws.proofs.PlacedFacts.{PlaceFacts}
 use Rattle.readback_laws.proofs.HeldFields.{field_held}
@@ -258,7 +258,7 @@ leads_to_label facts symbols laid pos text forms placed symbol number address ta
 pub jump_reads_back : AreSettled → ReadsOneWay → TableFacts → PlaceFacts → JumpFacts → (no_warn : Bool) (front : List TokenStatement) (s : TokenStatement) (later : List TokenStatement)
     (text : InsnText) (condition : Option Condition) (placed whole : Placed) (worked_out : Option (List Frame)) (tables : Tables) (laid : LaidSections) (object : List ℕ)
     → AreCovered worked_out whole → place_all front (nothing_placed no_warn) ≡ Ok placed → place_all (front ++ s ∷ later) (nothing_placed no_warn) ≡ Ok whole
-    → framed (with_worked_out worked_out whole) ≡ Ok tables → layout_of tables.symbols tables.sections ≡ Ok laid → object ≡ image_of tables.symbols laid
+    → ComesTo (with_worked_out worked_out whole) tables → layout_of tables.symbols tables.sections ≡ Ok laid → object ≡ image_of tables.symbols laid
     → insn_in placed.syntax s ≡ Some text → jump_in text ≡ Some condition → has_no_bits laid placed.current ≡ false → JumpReadsBack object tables.symbols laid s text placed
 jump_reads_back settled one_way table placing facts no_warn front s later text condition placed whole worked_out tables laid object covered front_is all framed_is is same written jump filed =
     let empty = nothing_placed no_warn in
@@ -287,7 +287,8 @@ jump_reads_back settled one_way table placing facts no_warn front s later text c
     let places = facts.places (front ++ s ∷ later) empty whole all (facts.starts no_warn) in
     let rest = sym (ap (λ r. r >>= place_all (s ∷ later)) front_is) ∙ (sym (all_split front (s ∷ later) empty) ∙ all) in
     let named = facts.named s later placed whole text (facts.places front empty placed front_is (facts.starts no_warn)) there.jump rest written in
-    let labels = labels_framed table (with_worked_out worked_out whole) tables within (covered_stand worked_out whole covered) framed_is in
+    let labels = labels_framed table (with_worked_out worked_out whole) tables within (covered_stand worked_out whole covered)
+    (table.rows (front ++ s ∷ later) no_warn whole all) framed_is in
     let last = length whole.table.symbols.symbols in
     let stand = symbols_framed whole.sections sections whole.table.symbols symbols with_table.grows places.symbols labels in
     let own = names_own_place facts.adds sections symbols last there.jump.forms.displacement stand (facts.few (front ++ s ∷ later) no_warn whole all)
@@ -310,4 +311,5 @@ pub jumps_read_back : AreSettled → ReadsOneWay → TableFacts → PlaceFacts �
     → JumpsReadBack no_warn handed object from.tables.symbols from.laid
 jumps_read_back settled one_way table placing facts no_warn worked_out handed object from covered s text condition placed reached written jump filed =
     jump_reads_back settled one_way table placing facts no_warn reached.before s reached.after text condition placed from.whole worked_out from.tables from.laid object
-    covered reached.places (all_placed no_warn worked_out handed object from s placed reached) from.frames from.settles from.image written jump filed
+    covered reached.places (all_placed no_warn worked_out handed object from s placed reached)
+    (record { framed = from.framed; frames = from.frames; lines = from.lines }) from.settles from.image written jump filed

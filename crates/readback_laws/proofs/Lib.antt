@@ -3,6 +3,7 @@ mod Lists
 mod SettledObjects
 mod PlacedFacts
 mod ReachedStatements
+mod StandingRows
 mod FramedSections
 mod BareInObject
 mod CodeValues
@@ -16,6 +17,8 @@ mod OwnPlaces
 mod FramedSymbols
 mod SmallSections
 mod JumpsInObject
+mod LinedSections
 mod FramesInObject
+mod ReadyForLines
 mod CodesInObject
 mod CoveredFrames

@@ -11,7 +11,7 @@ use Rattle.asm_relax.specs.RangeChecks.{last_item, whole_size}
 use Rattle.asm_relax.specs.Placing.{placed_from, placed_section, shift_of}
 use Rattle.asm_relax.specs.Settling.{LaidItem, LaidSections}
 use Rattle.elf_object.specs.Places.{moved}
-use Rattle.frame_laws.specs.PlacedTables as table
+use Rattle.piece_laws.specs.LaidTables as table
 
 -- an item moves what stands behind it by its size
 pub shift_next : (items : List LaidItem) (index shift : ℕ) (item : LaidItem) → slice_get items index ≡ Some item

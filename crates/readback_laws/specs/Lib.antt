@@ -2,3 +2,4 @@
 pub mod Origins
 pub mod Instructions
 pub mod ReadsBack
+pub mod FramedTables

@@ -5,9 +5,10 @@ use Rattle.asm_lines.specs.NextStatements.{TokenStatement}
 use Rattle.asm_relax.specs.Settling.{LaidSections, layout_of}
 use Rattle.cfi_directives.specs.declared.frames.Frame.{Frame}
 use Rattle.cfi_directives.specs.Procedures.{Procedures, frames_of}
-use Rattle.eh_frame.specs.Pieces.{Tables, tables_of}
+use Rattle.table_pieces.specs.Pieces.{Tables, tables_of}
 use Rattle.eh_frame.specs.Placing as frame_table
-use Rattle.eh_frame.specs.StandingPlaces.{GetsStanding}
+use Rattle.line_table.specs.Placing as line_table
+use Rattle.table_pieces.specs.StandingPlaces.{GetsStanding}
 use Rattle.frame_laws.specs.PlacedTables.{IsCovered}
 use Rattle.section_laws.specs.Within.{AreWithin}
 use Rattle.asm_values.specs.State.{Placed, nothing_placed}
@@ -15,7 +16,7 @@ use Rattle.asm_place.specs.Instructions.{Grows}
 use Rattle.asm_place.specs.Sources.{place_all}
 use Rattle.elf_object.specs.Image.{image_of}
 
--- THE FRAME TABLE
+-- THE TABLES
 
 -- frames that were worked out stand in place of procedures, and none is open
 abbrev pub procedures_by : Option (List Frame) → Procedures → Procedures
@@ -27,16 +28,16 @@ abbrev pub with_worked_out : Option (List Frame) → Placed → Placed
 with_worked_out worked_out placed = record placed { procedures = procedures_by worked_out placed.procedures }
 
 -- the symbols and the sections with the frame table of all procedures, or the cause for which it is refused
-abbrev pub framed : Placed → Result Tables FragCause
-framed whole = frame_table.placed (frames_of whole.procedures) (tables_of whole.table.symbols whole.sections)
+abbrev pub framed_of : Placed → Result Tables FragCause
+framed_of whole = frame_table.placed (frames_of whole.procedures) (tables_of whole.table.symbols whole.sections)
 
 -- no procedure is open, or the frames in place of them cover places of their sections
 abbrev pub FramesAreReady : Option (List Frame) → Placed → Type 0
 FramesAreReady None whole = whole.procedures.begun ≡ None
 FramesAreReady (Some frames) whole = All (IsCovered whole.sections) frames
 
--- what was placed, with its frame table: all sections and symbols are as they were, and more. Fields and items stand within the bytes of their sections, and
--- the symbols that come are labels that stand there
+-- what was placed, with its frame table and its line table: all sections and symbols are as they were, and more. Fields and items stand within the bytes of
+-- their sections, and the symbols that come are labels that stand there
 pub record IsContinuedBy (whole : Placed) (tables : Tables) : Type 0 where
   pub grows : Grows whole.sections tables.sections
   pub within : AreWithin tables.sections
@@ -45,13 +46,15 @@ pub record IsContinuedBy (whole : Placed) (tables : Tables) : Type 0 where
 -- THE OBJECT
 
 -- what the object of the statements that are handed out is made of: they are all placed, the frame table of their procedures, or of the frames that were
--- worked out, comes to what they place, and both are laid out
+-- worked out, comes to what they place, their line table behind that, and all is laid out
 pub record Origin (no_warn : Bool) (worked_out : Option (List Frame)) (handed : List TokenStatement) (object : List ℕ) : Type 0 where
   pub whole : Placed
+  pub framed : Tables
   pub tables : Tables
   pub laid : LaidSections
   pub places : place_all handed (nothing_placed no_warn) ≡ Ok whole
-  pub frames : framed (with_worked_out worked_out whole) ≡ Ok tables
+  pub frames : framed_of (with_worked_out worked_out whole) ≡ Ok framed
+  pub lines : line_table.placed whole.lines framed ≡ Ok tables
   pub settles : layout_of tables.symbols tables.sections ≡ Ok laid
   pub image : object ≡ image_of tables.symbols laid
 
@@ -67,7 +70,7 @@ abbrev pub AreReached : Bool → List TokenStatement → Type 0
 AreReached no_warn handed =
     (before after : List TokenStatement) (s : TokenStatement) → handed ≡ before ++ s ∷ after → (placed : Placed) × IsReached no_warn handed s placed
 
--- in an object the frame table continues what was placed, where frames are ready
+-- in an object the tables continue what was placed, where frames are ready
 abbrev pub TablesContinue : Type 0
 TablesContinue = (no_warn : Bool) (worked_out : Option (List Frame)) (handed : List TokenStatement) (object : List ℕ)
     → (origin : Origin no_warn worked_out handed object) → FramesAreReady worked_out origin.whole → IsContinuedBy origin.whole origin.tables

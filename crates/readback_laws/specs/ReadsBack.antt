@@ -1,5 +1,5 @@
 -- The object of statements, read back: their instructions at their places, and the frame table.
-use Rattle.std.specs.Prelude.{◌≡◌, ℕ, Bool, List, ◌∷◌, Option}
+use Rattle.std.specs.Prelude.{◌≡◌, ℕ, ◌+◌, ◌^◌, ◌≤◌, Bool, List, ◌∷◌, length, Option}
 use Rattle.asm_lines.specs.NextStatements.{TokenStatement}
 use Rattle.asm_symbols.specs.SymbolMap.{SymbolMap}
 use Rattle.asm_relax.specs.Settling.{LaidSections}
@@ -17,7 +17,7 @@ FramesReadBack object whole symbols laid =
     (frame : Frame) (frames : List Frame) → frames_of whole.procedures ≡ frame ∷ frames → TableReads object symbols laid (frame ∷ frames)
 
 -- the object is made of what is handed out: each instruction of that reads back in it, where its section has bytes in the file, and so does the frame
--- table of all procedures
+-- table of all procedures. At most two labels a byte of the frame table, and one a byte of the line table, are symbols for them
 pub record ReadsBack (no_warn : Bool) (worked_out : Option (List Frame)) (handed : List TokenStatement) (object : List ℕ) : Type 0 where
   pub made : Origin no_warn worked_out handed object
   pub reached : AreReached no_warn handed
@@ -25,6 +25,7 @@ pub record ReadsBack (no_warn : Bool) (worked_out : Option (List Frame)) (handed
   pub coded : CodesReadBack no_warn handed object made.tables.symbols made.laid
   pub jumps : JumpsReadBack no_warn handed object made.tables.symbols made.laid
   pub frames : FramesReadBack object (with_worked_out worked_out made.whole) made.tables.symbols made.laid
+  pub few : length made.tables.symbols.symbols ≤ 2 ^ 24 + 2 ^ 31 + 2 ^ 30
 
 -- so it is with each object of statements whose frames are ready
 abbrev pub StatementsReadBack : Type 0

@@ -12,7 +12,7 @@ use Rattle.asm_functions.specs.FollowedSource.{FollowedSource}
 use Rattle.expansion_laws.specs.Handing.{IsBytes, AreBytes, HandsBytes}
 use Rattle.form_laws.specs.Numbers.{IsSpelled}
 use Rattle.asm_front.specs.Assembly.{main_file, nothing_yet, placed_after, told_of, handed_by}
-use Rattle.asm_front.specs.Ending.{Flags}
+use Rattle.source_ends.specs.Ending.{Flags}
 
 by_lines : (flags : Flags) (contents : Contents) (name : List ℕ) (lines : Result (List StatementAt) LineCause)
     → IfOk lines (λ statements. All IsSpelled (handed placed_after told_of (Some contents) most_turns (started (name ∷ []) (map in_tokens statements)) (nothing_yet flags)))

@@ -27,7 +27,8 @@ use Rattle.asm_relax.specs.RangeChecks.{whole_size}
 use Rattle.asm_relax.specs.Settling.{unless}
 use Rattle.flow_graph.specs.AddedLabels.{IsLabelled}
 use Rattle.form_laws.specs.Numbers.{IsSpelled}
-use Rattle.frame_laws.specs.TableReads.{place_address, TableReads}
+use Rattle.piece_laws.specs.LaidTables.{place_address}
+use Rattle.frame_laws.specs.TableReads.{TableReads}
 use Rattle.loaded_laws.specs.Loaded.{IsLoaded}
 use Rattle.scfi_pass.specs.Tables.{Analyzed}
 use Rattle.scfi_laws.specs.Recovering.{Recovers}
@@ -36,7 +37,7 @@ use Rattle.code_laws.specs.Sections.{IsLoadedLater}
 use Rattle.target_laws.specs.Rooms.{StandIn}
 use Rattle.function_laws.specs.Recovered.{RecoversInBytes, FunctionTablesRecover}
 use Rattle.function_laws.specs.Tabled.{laid_address, starts_of, IsLoadedFunction, FunctionsAreTabled}
-use Rattle.asm_front.specs.Synthesis.{IsFrameOf}
+use Rattle.source_ends.specs.Synthesis.{IsFrameOf}
 use Rattle.recovery_laws.specs.Executions.{RowsRecover}
 use Rattle.recovery_laws.specs.Linked.{IsLinked, HasEntry, row_by}
 use Rattle.recovery_laws.specs.Recovered.{FunctionRecovers}

@@ -10,7 +10,7 @@ use Rattle.section_laws.specs.Within.{AreWithin}
 use Rattle.asm_relax.specs.Settling.{LaidSections, layout_of}
 use Rattle.asm_values.specs.State.{Placed, nothing_placed}
 use Rattle.asm_place.specs.Sources.{place_all}
-use Rattle.asm_place.specs.SymbolPlaces.{PlacesStand}
+use Rattle.asm_place.specs.SymbolPlaces.{FieldsAreOwn, PlacesStand}
 use Rattle.cfi_directives.specs.declared.frames.Frame.{Frame}
 use Rattle.code_functions.specs.declared.items.CodeItem.{CodeItem}
 use Rattle.code_functions.specs.Recorded.{Recorded, closed, closed_by, all_closed}
@@ -18,27 +18,29 @@ use Rattle.code_functions.specs.Seen.{SeenItem, mapped, seen, all_seen}
 use Rattle.asm_functions.specs.FollowedSource.{FollowedSource, nothing_followed, follow_all, functions_at_end}
 use Rattle.asm_functions.specs.Following.{end_of}
 use Rattle.asm_functions.specs.Standing.{StandsInOrder}
-use Rattle.eh_frame.specs.Found.{IsPlaced}
-use Rattle.eh_frame.specs.Pieces.{Tables, tables_of}
+use Rattle.eh_frame.specs.FoundTables.{IsPlaced}
+use Rattle.table_pieces.specs.Pieces.{Tables, tables_of}
 use Rattle.eh_frame.specs.Placing.{placed}
+use Rattle.line_directives.specs.Taking.{LineTable}
+use Rattle.line_table.specs.Placing as line_table
 use Rattle.expansion_laws.specs.Handing.{IsBytes, AreBytes}
 use Rattle.form_laws.specs.Framed.{TablesKeepTargets}
 use Rattle.form_laws.specs.Numbers.{IsSpelled}
 use Rattle.frame_laws.specs.TableReads.{TableReads}
-use Rattle.asm_front.specs.Synthesis.{Synthesis, IsSynthesis, IsMadeAt, IsFrameOf}
-use Rattle.asm_front.specs.Ending.{Flags, framed, with_made}
+use Rattle.source_ends.specs.Synthesis.{Synthesis, IsSynthesis, IsMadeAt, IsFrameOf}
+use Rattle.source_ends.specs.Ending.{Flags, framed, with_made}
 use Rattle.asm_front.specs.Assembly.{assembled, assembly_of, is_asked, main_file, expansion_of, handed_by, handed_of, SourceIsMade}
 use Rattle.asm_front.specs.Made.{IsMadeOf}
 use Rattle.readback_laws.specs.ReadsBack.{FramesReadBack}
 use Rattle.asm_front.specs.ReadsBack.{Origin, ReadsBack}
-use Rattle.asm_front.specs.declared.ending.NotedObject.{NotedObject}
+use Rattle.source_ends.specs.declared.ending.NotedObject.{NotedObject}
 use Rattle.recovery_laws.specs.Recovered.{FunctionRecovers, FunctionsRecover}
 use Rattle.recovery_laws.specs.Sources.{FramesRecover, StepRecovers, SourceRecovers, ObjectsRecover}
 use Rattle.recovery_laws.proofs.Lists.{same_Ok, all_there, zip_there}
 use Rattle.recovery_laws.proofs.OneFunction.{FunctionFacts, IsLaidOut, function_recovers}
 use Rattle.recovery_laws.proofs.StandingSymbols.{stand_in}
 use Rattle.recovery_laws.proofs.TableEntries.{has_entry}
-use Rattle.recovery_laws.proofs.TableFields.{placed_fields}
+use Rattle.recovery_laws.proofs.TableFields.{LinesArePut, lines_fields, placed_fields}
 
 -- what is known of sources and of their objects
 pub record Facts : Type 0 where
@@ -56,6 +58,7 @@ pub record Facts : Type 0 where
   pub order : (statements : List TokenStatement) (no_warn asked : Bool) (f : FollowedSource) → follow_all statements (nothing_followed no_warn asked) ≡ Ok f
       → All (StandsInOrder f.placed.sections) (functions_at_end f)
   pub put : (frame : Frame) (frames : List Frame) (tables after : Tables) → AreWithin tables.sections → placed (frame ∷ frames) tables ≡ Ok after → IsPlaced frame frames tables after
+  pub put_lines : (lines : LineTable) (tables after : Tables) → AreWithin tables.sections → line_table.placed lines tables ≡ Ok after → LinesArePut lines tables after
   pub labelled : TablesKeepTargets
   pub spelled : (flags : Flags) (contents : Contents) (name source : List ℕ) → AreBytes contents → IsBytes source
       → All IsSpelled (handed_by flags contents name (statements_of main_file source))
@@ -87,18 +90,25 @@ get_seen (g ∷ functions) (suc n) f there = get_seen functions n f there
 pub record IsOne (flags : Flags) (contents : Contents) (name source object : List ℕ) (m : IsMadeOf flags contents name source object)
     (o : Origin flags (handed_of flags contents name source) object) : Type 0 where
   pub whole : o.whole ≡ m.whole.placed
+  pub framed_tables : o.framed ≡ m.framed_tables
   pub tables : o.tables ≡ m.tables
   pub laid : o.laid ≡ m.laid
 
 is_one : (flags : Flags) (contents : Contents) (name source object : List ℕ) (m : IsMadeOf flags contents name source object)
     (o : Origin flags (handed_of flags contents name source) object) → IsOne flags contents name source object m o
-is_one flags contents name source object m o = record { whole = whole; tables = tables; laid = laid }
+is_one flags contents name source object m o =
+    record { whole = whole; framed_tables = framed_tables; tables = tables; laid = laid }
   where
     whole : o.whole ≡ m.whole.placed
     whole = same_Ok o.whole m.whole.placed (sym o.places ∙ m.places)
 
+    framed_tables : o.framed ≡ m.framed_tables
+    framed_tables = same_Ok o.framed m.framed_tables (sym o.frames ∙ (ap (λ (w : Placed). framed (with_made flags.scfi w)) whole ∙ m.frames))
+
     tables : o.tables ≡ m.tables
-    tables = same_Ok o.tables m.tables (sym o.frames ∙ (ap (λ (w : Placed). framed (with_made flags.scfi w)) whole ∙ m.frames))
+    tables =
+        same_Ok o.tables m.tables
+        (sym o.lines ∙ (ap (λ (w : Placed). line_table.placed w.lines o.framed) whole ∙ (ap (line_table.placed m.whole.placed.lines) framed_tables ∙ m.lines)))
 
     laid : o.laid ≡ m.laid
     laid = same_Ok o.laid m.laid (sym o.settles ∙ (ap (λ (t : Tables). layout_of t.symbols t.sections) tables ∙ m.settles))
@@ -121,10 +131,17 @@ module _ (facts : Facts) (flags : Flags) (contents : Contents) (name source obje
   few = facts.few (handed_of flags contents name source) flags.no_warn whole.placed m.places
 
   -- where there is a frame, its table is put
-  module _ (frame : Frame) (frames : List Frame) (put : placed (frame ∷ frames) (tables_of whole.placed.table.symbols whole.placed.sections) ≡ Ok m.tables)
+  module _ (frame : Frame) (frames : List Frame) (put : placed (frame ∷ frames) (tables_of whole.placed.table.symbols whole.placed.sections) ≡ Ok m.framed_tables)
       (reads : TableReads object m.tables.symbols m.laid (frame ∷ frames)) where
-    is_placed : IsPlaced frame frames (tables_of whole.placed.table.symbols whole.placed.sections) m.tables
-    is_placed = facts.put frame frames (tables_of whole.placed.table.symbols whole.placed.sections) m.tables within put
+    is_placed : IsPlaced frame frames (tables_of whole.placed.table.symbols whole.placed.sections) m.framed_tables
+    is_placed = facts.put frame frames (tables_of whole.placed.table.symbols whole.placed.sections) m.framed_tables within put
+
+    -- the line table is put behind it
+    own_fields : FieldsAreOwn (length whole.placed.table.symbols.symbols) m.tables.sections
+    own_fields =
+        let last = length whole.placed.table.symbols.symbols in
+        lines_fields last whole.placed.lines m.framed_tables m.tables (facts.put_lines whole.placed.lines m.framed_tables m.tables is_placed.within m.lines)
+        (placed_fields last frame frames (tables_of whole.placed.table.symbols whole.placed.sections) m.framed_tables is_placed stands.fields)
 
     laid_out : IsLaidOut statements flags.no_warn (is_asked flags) whole m.tables.symbols m.tables.sections m.laid object
     laid_out = record {
@@ -135,10 +152,11 @@ module _ (facts : Facts) (flags : Flags) (contents : Contents) (name source obje
       settles = m.settles;
       is_object = m.is_object;
       stand = stand_in whole.placed.sections m.tables.sections whole.placed.table.symbols m.tables.symbols m.continued.grows stands.symbols m.continued.labels reads.few few;
-      labelled = facts.labelled (handed_of flags contents name source) flags.no_warn whole.placed (frame ∷ frames) m.tables m.places put;
+      labelled = facts.labelled (handed_of flags contents name source) flags.no_warn whole.placed (frame ∷ frames) m.framed_tables m.tables
+          m.places put m.lines;
       last = length whole.placed.table.symbols.symbols;
       low = let most = few in omega (arith, most);
-      own = placed_fields (length whole.placed.table.symbols.symbols) frame frames (tables_of whole.placed.table.symbols whole.placed.sections) m.tables is_placed stands.fields;
+      own = own_fields;
     }
 
     recovers_there : (functions : List (Recorded CodeItem)) → all_seen functions ≡ functions_at_end whole → (n : ℕ) (f : Recorded CodeItem) (of : Frame) → slice_get functions n ≡ Some f
@@ -167,22 +185,22 @@ module _ (facts : Facts) (flags : Flags) (contents : Contents) (name source obje
               (zip_there (IsFrameOf whole.placed.table.symbols whole.placed.sections) functions (frame ∷ frames) is.comes n f of there of_there);
         }
 
-  by_synthesis : (made : Option Synthesis) → IsMadeAt made whole → framed (with_made made whole.placed) ≡ Ok m.tables
+  by_synthesis : (made : Option Synthesis) → IsMadeAt made whole → framed (with_made made whole.placed) ≡ Ok m.framed_tables
       → FramesReadBack object (with_made made whole.placed) m.tables.symbols m.laid → FramesRecover object m.tables.symbols m.laid made whole
   by_synthesis None is put reads = tt
   by_synthesis (Some (Err at)) is put reads = tt
   by_synthesis (Some (Ok [])) is put reads = tt
   by_synthesis (Some (Ok (frame ∷ frames))) is put reads =
       let all : (frame ∷ frames) ++ [] ≡ frame ∷ frames = append-nil (frame ∷ frames) in
-      recovers_with frame frames (subst (λ (these : List Frame). placed these (tables_of whole.placed.table.symbols whole.placed.sections) ≡ Ok m.tables) all put) (reads frame frames all) is
+      recovers_with frame frames (subst (λ (these : List Frame). placed these (tables_of whole.placed.table.symbols whole.placed.sections) ≡ Ok m.framed_tables) all put) (reads frame frames all) is
 
   -- the frame table of the object reads
   reads_there : ReadsBack flags (handed_of flags contents name source) object → FramesReadBack object (with_made flags.scfi whole.placed) m.tables.symbols m.laid
   reads_there back =
-      let one = is_one flags contents name source object m back.made in
+      let one = is_one flags contents name source object m back.statements_read.made in
       subst (λ (w : Placed). FramesReadBack object (with_made flags.scfi w) m.tables.symbols m.laid) one.whole
-      (subst (λ (t : Tables). FramesReadBack object (with_made flags.scfi back.made.whole) t.symbols m.laid) one.tables
-      (subst (λ (l : LaidSections). FramesReadBack object (with_made flags.scfi back.made.whole) back.made.tables.symbols l) one.laid back.frames))
+      (subst (λ (t : Tables). FramesReadBack object (with_made flags.scfi back.statements_read.made.whole) t.symbols m.laid) one.tables
+      (subst (λ (l : LaidSections). FramesReadBack object (with_made flags.scfi back.statements_read.made.whole) back.statements_read.made.tables.symbols l) one.laid back.statements_read.frames))
 
   pub source_recovers : ReadsBack flags (handed_of flags contents name source) object → SourceRecovers flags contents name source object
   source_recovers back = λ made.

@@ -13,7 +13,7 @@ use Rattle.cfi_directives.specs.declared.frames.PlacedOp.{PlacedOp}
 use Rattle.cfi_directives.specs.Meant.{stands_at, from_start, ops_up_to, row_meant, stop_of}
 use Rattle.cfi_directives.specs.Rows.{rows_after}
 use Rattle.elf_object.specs.Places.{moved}
-use Rattle.frame_laws.specs.TableReads.{place_address}
+use Rattle.piece_laws.specs.LaidTables.{place_address}
 use Rattle.function_laws.specs.Tabled.{laid_address}
 
 module _ (one other : SectionPlace → ℕ) (frame : Frame) (same : (place : Place) → stands_at one frame.section place ≡ stands_at other frame.section place) where

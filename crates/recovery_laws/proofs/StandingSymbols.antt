@@ -16,7 +16,7 @@ use Rattle.asm_symbols.specs.Assigning.{form_of, form_at, Leads, straight, furth
 use Rattle.asm_symbols.specs.SymbolMap.{SymbolMap}
 use Rattle.asm_place.specs.Instructions.{with_more, Grows}
 use Rattle.asm_place.specs.SymbolPlaces.{AreUpTo, HasItems, MeaningStands, SymbolStands, SymbolsStand}
-use Rattle.eh_frame.specs.StandingPlaces.{LabelStands, GetsStanding}
+use Rattle.table_pieces.specs.StandingPlaces.{LabelStands, GetsStanding}
 use Rattle.target_laws.specs.Targets.{NamesNoField, AreExpandable}
 use Rattle.target_laws.specs.Rooms.{StandIn}
 use Rattle.recovery_laws.proofs.Lists.{all_there}
@@ -82,7 +82,7 @@ form_up sections last (meaning.Assigned other) form stands is =
     subst (λ (f : Form). AreUpTo last f.terms) same stands
 
 module _ (before after : List LooseSection) (map labelled : SymbolMap) (grows : Grows before after) (stand : SymbolsStand before map.symbols) (gets : GetsStanding after map labelled)
-    (few : length labelled.symbols ≤ 2 ^ 24 + 2 ^ 31) (low : length map.symbols ≤ 2 ^ 24) where
+    (few : length labelled.symbols ≤ 2 ^ 24 + 2 ^ 31 + 2 ^ 30) (low : length map.symbols ≤ 2 ^ 24) where
   abbrev last : ℕ
   last = length map.symbols
 

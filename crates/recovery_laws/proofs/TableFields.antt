@@ -1,12 +1,13 @@
--- The fields of a frame table are those of its section, and none is a jump's.
-use Rattle.std.proofs.Common.{◌≡◌, ℕ, inl, inr, Bool, true, false, cond, List, [], ◌∷◌, ◌++◌, All, Option, None, Some, refl, sym, subst}
+-- The fields of a frame table and of a line table are those of their sections, and none is a jump's.
+use Rattle.std.proofs.Common.{◌≡◌, ℕ, ◌⊎◌, inl, inr, Bool, true, false, cond, List, [], ◌∷◌, ◌++◌, All, Option, None, Some, Ok, refl, sym, ap, subst, ◌∙◌}
 use Rattle.std.specs.Prelude.{slice_get}
 use Rattle.std.proofs.lemmas.List.Elements.{All-nil, All-push}
 use Rattle.asm_base.specs.declared.places.SectionPlace.{SectionPlace}
 use Rattle.asm_base.specs.declared.positions.Pos.{Pos}
 use Rattle.asm_expr.specs.Forms.{Form}
 use Rattle.asm_frags.specs.declared.fields.Field.{Field}
-use Rattle.asm_frags.specs.declared.fields.FieldSize.TheVariants.{Four}
+use Rattle.asm_frags.specs.declared.fields.FieldSize.{FieldSize}
+use Rattle.asm_frags.specs.declared.fields.FieldSize.TheVariants.{Four, Eight}
 use Rattle.asm_frags.specs.Addresses.{changed_at, changed_there}
 use Rattle.asm_frags.specs.Fields.{data_role}
 use Rattle.asm_frags.specs.Writing.{LooseSection, ends_in_run, new_item, with_item, with_run, with_bytes, with_field, with_growing}
@@ -15,14 +16,20 @@ use Rattle.item_contents.specs.declared.kinds.Growth.TheVariants as growth
 use Rattle.item_contents.specs.ItemParts.{zeros_up_to}
 use Rattle.cfi_directives.specs.declared.frames.Frame.{Frame}
 use Rattle.cfi_rows.specs.Entries.{common_bytes}
-use Rattle.eh_frame.specs.declared.ends.SectionEnd.{SectionEnd}
-use Rattle.eh_frame.specs.Entries.{behind_pieces, end_place, entry_pieces}
-use Rattle.eh_frame.specs.Found.{IsPlaced}
-use Rattle.eh_frame.specs.Marks.{distance_form}
-use Rattle.eh_frame.specs.Pieces.{Piece, plain, number, pointer, advance, padding, from_here, Tables, piece_put, pieces_put}
-use Rattle.eh_frame.specs.Placing.{padded_log, end_of, entries_put, new_table, table_put}
+use Rattle.table_pieces.specs.declared.ends.SectionEnd.{SectionEnd}
+use Rattle.table_pieces.specs.Ends.{behind_pieces, end_place, end_of}
+use Rattle.eh_frame.specs.Entries.{entry_pieces}
+use Rattle.eh_frame.specs.FoundTables.{IsPlaced}
+use Rattle.table_pieces.specs.Marks.{distance_form, address_form}
+use Rattle.table_pieces.specs.Pieces as put
+use Rattle.table_pieces.specs.Pieces.{Piece, plain, number, pointer, advance, leb128, padding, from_here, Tables, piece_put, pieces_put}
+use Rattle.eh_frame.specs.Placing.{padded_log, entries_put, new_table, table_put}
+use Rattle.line_directives.specs.Taking.{LineTable}
+use Rattle.line_table.specs.FoundTables as line_found
+use Rattle.line_table.specs.Placing as line_table
 use Rattle.asm_place.specs.SymbolPlaces.{IsOwnField, FieldsAreOwn}
-use Rattle.recovery_laws.proofs.Lists.{set_cases, last_or_before}
+use Rattle.section_laws.specs.Within.{AreWithin}
+use Rattle.recovery_laws.proofs.Lists.{same_Ok, set_cases, last_or_before}
 
 -- a run has no fields
 run_fields : (pos : Pos) (section : LooseSection) → (with_run pos section).fields ≡ section.fields
@@ -54,11 +61,14 @@ module _ (last section : ℕ) where
   field_more : (held : LooseSection) (field : Field) → IsOwnField last section field → All (IsOwnField last section) held.fields → All (IsOwnField last section) (held.fields ++ field ∷ [])
   field_more held field one own = All-push (IsOwnField last section) held.fields field own one
 
-  number_fields : (pos : Pos) (form : Form) → Keeps (with_field pos section Four data_role form)
-  number_fields pos form held = field_more held _ (record { own = refl; target = λ in_item branch. absurd cc })
+  number_fields : (size : FieldSize) (pos : Pos) (form : Form) → Keeps (with_field pos section size data_role form)
+  number_fields size pos form held = field_more held _ (record { own = refl; target = λ in_item branch. absurd cc })
 
   advance_fields : (pos : Pos) (form : Form) → Keeps (with_growing pos section growth.Advance None form)
   advance_fields pos form held = field_more held _ (record { own = refl; target = λ in_item branch. absurd cc })
+
+  leb128_fields : (pos : Pos) (form : Form) → Keeps (with_growing pos section (growth.Leb128 false) None form)
+  leb128_fields pos form held = field_more held _ (record { own = refl; target = λ in_item branch. absurd cc })
 
   bytes_fields : (pos : Pos) (bytes : List ℕ) → Keeps (with_bytes pos bytes)
   bytes_fields pos bytes held own = subst (All (IsOwnField last section)) (sym (run_fields pos held)) own
@@ -67,13 +77,19 @@ module _ (last section : ℕ) where
   piece_fields : (pos : Pos) (piece : Piece) (tables : Tables) → FieldsAreOwn last tables.sections → FieldsAreOwn last (piece_put section pos piece tables).sections
   piece_fields pos (plain bytes) tables own = changed_fields (with_bytes pos bytes) (bytes_fields pos bytes) tables.sections own
   piece_fields pos (number distance) tables own =
-      changed_fields (with_field pos section Four data_role (distance_form tables.symbols distance)) (number_fields pos (distance_form tables.symbols distance)) tables.sections own
+      changed_fields (with_field pos section Four data_role (distance_form tables.symbols distance)) (number_fields Four pos (distance_form tables.symbols distance)) tables.sections own
   piece_fields pos (pointer place) tables own =
       changed_fields (with_field pos section Four data_role (distance_form tables.symbols (from_here place)))
-      (number_fields pos (distance_form tables.symbols (from_here place))) tables.sections own
+      (number_fields Four pos (distance_form tables.symbols (from_here place))) tables.sections own
+  piece_fields pos (put.address place) tables own =
+      changed_fields (with_field pos section Eight data_role (address_form tables.symbols place)) (number_fields Eight pos (address_form tables.symbols place))
+      tables.sections own
   piece_fields pos (advance distance) tables own =
       changed_fields (with_growing pos section growth.Advance None (distance_form tables.symbols distance)) (advance_fields pos (distance_form tables.symbols distance))
       tables.sections own
+  piece_fields pos (leb128 distance) tables own =
+      changed_fields (with_growing pos section (growth.Leb128 false) None (distance_form tables.symbols distance))
+      (leb128_fields pos (distance_form tables.symbols distance)) tables.sections own
   piece_fields pos (padding log) tables own = changed_fields (with_item (new_item pos (Align (zeros_up_to log)))) (λ held all. all) tables.sections own
 
   -- pieces, entries, and the table
@@ -93,10 +109,11 @@ module _ (last section : ℕ) where
       entries_fields (end_place section (end_of section tables.sections)) (end_of section (piece_put section pos (plain common_bytes) tables).sections) frames
       (piece_put section pos (plain common_bytes) tables) (piece_fields pos (plain common_bytes) tables own)
 
--- a new section for it has none
-new_fields : (last : ℕ) (sections : List LooseSection) → FieldsAreOwn last sections → FieldsAreOwn last (sections ++ new_table ∷ [])
-new_fields last sections own = λ number section there. elim (last_or_before sections new_table number section there) [
-  | inl same ↦ subst (λ (s : LooseSection). All (IsOwnField last number) s.fields) same (All-nil (IsOwnField last number))
+-- a new section without fields has none
+new_fields : (last : ℕ) (new : LooseSection) → new.fields ≡ [] → (sections : List LooseSection) → FieldsAreOwn last sections → FieldsAreOwn last (sections ++ new ∷ [])
+new_fields last new none sections own = λ number section there. elim (last_or_before sections new number section there) [
+  | inl same ↦
+      subst (λ (s : LooseSection). All (IsOwnField last number) s.fields) same (subst (All (IsOwnField last number)) (sym none) (All-nil (IsOwnField last number)))
   | inr was ↦ own number section was
 ]
 
@@ -109,5 +126,37 @@ placed_fields last frame frames tables after is own =
     first : FieldsAreOwn last is.first.sections
     first = elim is.begins [
       | inl there ↦ subst (λ (t : Tables). FieldsAreOwn last t.sections) (sym there.1) own
-      | inr new ↦ subst (λ (t : Tables). FieldsAreOwn last t.sections) (sym new.2) (new_fields last tables.sections own)
+      | inr new ↦ subst (λ (t : Tables). FieldsAreOwn last t.sections) (sym new.2) (new_fields last new_table refl tables.sections own)
+    ]
+
+-- a line table is put, if there is a `.file` with a number, and else nothing
+abbrev pub LinesArePut : LineTable → Tables → Tables → Type 0
+LinesArePut lines tables after = ((pos : Pos) × line_found.IsPlaced pos lines tables after) ⊎ (after ≡ tables)
+
+-- without such a `.file` nothing is put
+nothing_put : (lines : LineTable) (tables after : Tables) → lines.first ≡ None → line_table.placed lines tables ≡ Ok after → after ≡ tables
+unfolding line_table.placed
+nothing_put lines tables after none is = same_Ok after tables (sym is ∙ ap (λ (first : Option Pos). line_table.placed_at first lines tables) none)
+
+-- so it is of every line table
+pub lines_put : ((pos : Pos) (lines : LineTable) (tables after : Tables) → lines.first ≡ Some pos → AreWithin tables.sections → line_table.placed lines tables ≡ Ok after
+    → line_found.IsPlaced pos lines tables after) → (lines : LineTable) (tables after : Tables) → AreWithin tables.sections → line_table.placed lines tables ≡ Ok after
+    → LinesArePut lines tables after
+lines_put law lines tables after within is = by lines.first refl
+  where
+    by : (first : Option Pos) → lines.first ≡ first → LinesArePut lines tables after
+    by None none = inr (nothing_put lines tables after none is)
+    by (Some pos) some = inl (pos, law pos lines tables after some within is)
+
+-- then each field is its section's too
+pub lines_fields : (last : ℕ) (lines : LineTable) (tables after : Tables) → LinesArePut lines tables after → FieldsAreOwn last tables.sections → FieldsAreOwn last after.sections
+lines_fields last lines tables after (inr same) own = subst (λ (t : Tables). FieldsAreOwn last t.sections) (sym same) own
+lines_fields last lines tables after (inl (pos, is)) own =
+    subst (λ (t : Tables). FieldsAreOwn last t.sections) (sym is.put)
+    (pieces_fields last is.section pos (line_table.unit_pieces is.section is.first.sections lines) is.first first)
+  where
+    first : FieldsAreOwn last is.first.sections
+    first = elim is.begins [
+      | inl there ↦ subst (λ (t : Tables). FieldsAreOwn last t.sections) (sym there.1) own
+      | inr new ↦ subst (λ (t : Tables). FieldsAreOwn last t.sections) (sym new.2) (new_fields last line_table.new_table refl tables.sections own)
     ]

@@ -17,7 +17,7 @@ use Rattle.synthesis_laws.specs.TableFrames.{placed_in}
 use Rattle.synthesis_laws.specs.TableFrames as synthesis
 use Rattle.synthesis_laws.specs.WrittenTables.{TablesAreOfItems}
 use Rattle.function_laws.specs.Tabled.{IsSynthesized}
-use Rattle.asm_front.specs.Synthesis.{place_of, placed_ops, nodes_in, IsFrameOf}
+use Rattle.source_ends.specs.Synthesis.{place_of, placed_ops, nodes_in, IsFrameOf}
 use Rattle.recovery_laws.specs.Recovered.{IsAnalysisOf}
 
 -- an item that is there has one place, whatever stands for that of one that is not

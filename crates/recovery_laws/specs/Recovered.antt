@@ -12,7 +12,7 @@ use Rattle.asm_functions.specs.FollowedSource.{FollowedSource, functions_at_end}
 use Rattle.scfi_pass.specs.Tables.{Analyzed, IsAnalyzed}
 use Rattle.frame_laws.specs.TableReads.{TableReads}
 use Rattle.function_laws.specs.Tabled.{laid_address, starts_of}
-use Rattle.asm_front.specs.Synthesis.{nodes_in, AreFrames}
+use Rattle.source_ends.specs.Synthesis.{nodes_in, AreFrames}
 use Rattle.recovery_laws.specs.Linked.{IsLinked, HasEntry, row_by}
 use Rattle.recovery_laws.specs.Executions.{RowsRecover}
 

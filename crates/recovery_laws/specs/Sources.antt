@@ -7,11 +7,11 @@ use Rattle.asm_macro.specs.Placing.{Step, ended}
 use Rattle.asm_place.specs.declared.place_faults.FaultAt.{FaultAt}
 use Rattle.asm_functions.specs.FollowedSource.{FollowedSource}
 use Rattle.expansion_laws.specs.Handing.{IsBytes, AreBytes}
-use Rattle.asm_front.specs.Synthesis.{Synthesis}
-use Rattle.asm_front.specs.Ending.{Flags}
+use Rattle.source_ends.specs.Synthesis.{Synthesis}
+use Rattle.source_ends.specs.Ending.{Flags}
 use Rattle.asm_front.specs.Assembly.{assembled, assembly_of, expansion_of, handed_of, SourceIsMade}
 use Rattle.asm_front.specs.ReadsBack.{Origin}
-use Rattle.asm_front.specs.declared.ending.NotedObject.{NotedObject}
+use Rattle.source_ends.specs.declared.ending.NotedObject.{NotedObject}
 use Rattle.recovery_laws.specs.Recovered.{FunctionsRecover}
 
 module _ (object : List ℕ) (map : SymbolMap) (laid : LaidSections) where

@@ -7,7 +7,6 @@ use asm_functions::{FollowingPlacer, functions_stand_in_order};
 use asm_place::{places_stand, placing_within};
 use asm_relax::layouts_keep_sections;
 use code_laws::relocated_fields_are_held;
-use eh_frame::pieces_are_found;
 use expansion_laws::handed_of_bytes_are_spelled;
 use form_laws::tables_add_labels;
 use function_laws::{function_tables_recover, functions_are_tabled};
@@ -30,7 +29,8 @@ pub fn objects_recover()
     placing_within();
     places_stand();
     functions_stand_in_order();
-    pieces_are_found();
+    eh_frame::tables_are_found();
+    line_table::tables_are_found();
     tables_add_labels();
     handed_of_bytes_are_spelled::<FollowingPlacer>();
     layouts_keep_sections();

@@ -46,6 +46,8 @@ pub enum Shown {
     FullObject,
     /// The rows of the object's frame table, by its bytes.
     Frames,
+    /// The rows of the object's line table, by its bytes.
+    LineTable,
     /// What is left where each call of the outside fails in turn.
     EveryCall,
 }
@@ -167,6 +169,7 @@ impl Row {
             "$" => self.words = Vec::new(alloc),
             "full" => self.shown = Shown::FullObject,
             "frames" => self.shown = Shown::Frames,
+            "line table" => self.shown = Shown::LineTable,
             "every call" => self.shown = Shown::EveryCall,
             _ => return Err(RowFault::NotUnderstood),
         }

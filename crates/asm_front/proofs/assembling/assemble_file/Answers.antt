@@ -9,7 +9,7 @@ use Rattle.asm_front.specs.Assembly.{faulty, main_file, shown_files, too_large}
 use Rattle.asm_front.specs.Outcome.{flags_asked}
 use Rattle.asm_front.specs.Sources.{file}
 use Rattle.asm_front.proofs.StartedFiles.{all_start}
-use Rattle.asm_front.specs.Synthesis.{Synthesis}
+use Rattle.source_ends.specs.Synthesis.{Synthesis}
 use Rattle.asm_front.proofs.AnswersMade.{main_answers, large_answers}
 use Rattle.asm_front.proofs.WholeSources.{file_is_read, file_is_large, text_missed_there}
 use Rattle.asm_front.proofs.assembling.assemble_file.Goals as goal

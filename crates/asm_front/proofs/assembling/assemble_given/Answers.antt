@@ -5,7 +5,7 @@ use Rattle.asm_front.specs.Answering.{CountsText, IsAnswered, StartsIncluded}
 use Rattle.asm_front.specs.Assembly.{faulty, main_file, shown_files, too_large}
 use Rattle.asm_front.specs.Outcome.{flags_asked}
 use Rattle.asm_front.specs.Sources.{given}
-use Rattle.asm_front.specs.Synthesis.{Synthesis}
+use Rattle.source_ends.specs.Synthesis.{Synthesis}
 use Rattle.asm_front.proofs.AnswersMade.{main_answers, large_answers}
 use Rattle.asm_front.proofs.StartedFiles.{given_start}
 use Rattle.asm_front.proofs.WholeSources.{given_is_read, given_is_large, given_missed}

@@ -1,7 +1,7 @@
 -- The answer for what came of the statements of the text.
 use Rattle.std.proofs.Common.{◌≡◌, [], ◌∷◌, ap, ◌∙◌, string_bytes}
 use Rattle.asm_front.specs.Outcome.{flags_asked}
-use Rattle.asm_front.specs.Synthesis.{Synthesis}
+use Rattle.source_ends.specs.Synthesis.{Synthesis}
 use Rattle.asm_front.proofs.AnswerLemmas.{text_missed}
 use Rattle.asm_front.proofs.AnswerFacts.{source_taken, source_large, source_cause, source_found}
 use Rattle.asm_front.proofs.AnswersMade.{empty_is, text_answers}
@@ -35,7 +35,7 @@ returns-clause-found g c =
 
 pub returns-clause-taken : goal.returns-clause-taken
 returns-clause-taken g c =
-    source_large c.args.asked.now c.expand_source-expanded.new.files c.expand_source-expanded.new.placer c.expand_source-expanded.result
+    source_large c.the_end_is_no_reading.ensures c.args.asked.now c.expand_source-expanded.new.files c.expand_source-expanded.new.placer c.expand_source-expanded.result
     c.answer.result (g.I.Inputs.taken c.args.ins.now) (g.I.Inputs.taken c.expand_source-expanded.new.ins) c.answer.ensures.answer c.answer.ensures.small c.expand_source-expanded.ensures.too_large
 
 pub returns-clause-at_most : goal.returns-clause-at_most

@@ -8,6 +8,7 @@ returns c flags contents name source made files is so fit =
     let facts : SmallFacts = record {
       small = c.sources_are_small.ensures;
       little = c.tables_add_little.ensures;
+      lines_little = c.tables_add_little-2.ensures;
       layouts = c.layouts_keep_sections.ensures;
       fit = c.objects_fit.ensures;
       found = c.source_sections_found.ensures;

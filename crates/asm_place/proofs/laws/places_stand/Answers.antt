@@ -7,10 +7,10 @@ pub returns-clause-begins : goal.returns-clause-begins
 returns-clause-begins c = places_begin
 
 pub returns-clause-kept : goal.returns-clause-kept
-returns-clause-kept c = places_kept c.frame_directives_keep_all_else.ensures c.leads_is_decided.ensures.leads
+returns-clause-kept c = places_kept (record { frames = c.frame_directives_keep_all_else.ensures; rows = c.line_directives_keep_all_else.ensures.rows; files = c.line_directives_keep_all_else.ensures.files }) c.leads_is_decided.ensures.leads
 
 pub returns-clause-few : goal.returns-clause-few
-returns-clause-few c = symbols_few c.frame_directives_keep_all_else.ensures c.leads_is_decided.ensures.leads
+returns-clause-few c = symbols_few (record { frames = c.frame_directives_keep_all_else.ensures; rows = c.line_directives_keep_all_else.ensures.rows; files = c.line_directives_keep_all_else.ensures.files }) c.leads_is_decided.ensures.leads
 
 pub returns-clause-named : goal.returns-clause-named
-returns-clause-named c = target_named c.frame_directives_keep_all_else.ensures c.leads_is_decided.ensures.leads
+returns-clause-named c = target_named (record { frames = c.frame_directives_keep_all_else.ensures; rows = c.line_directives_keep_all_else.ensures.rows; files = c.line_directives_keep_all_else.ensures.files }) c.leads_is_decided.ensures.leads

@@ -1,6 +1,7 @@
 -- The end behind the rest is the end behind all.
 use Rattle.std.proofs.Common.{◌≡◌, ℕ, drop}
-use Rattle.eh_frame.specs.Entries.{behind_pieces, op_pieces}
+use Rattle.table_pieces.specs.Ends.{behind_pieces}
+use Rattle.eh_frame.specs.Entries.{op_pieces}
 use Rattle.eh_frame.proofs.entries.behind_ops.Given as goal
 
 abbrev pub invariant-loop-placed : goal.invariant-loop-placed

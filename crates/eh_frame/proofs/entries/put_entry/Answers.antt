@@ -2,8 +2,9 @@
 use Rattle.std.proofs.Common.{List, ◌∷◌, ◌∙◌, ap}
 use Rattle.cfi_directives.specs.declared.frames.PlacedOp.{PlacedOp}
 use Rattle.asm_base.specs.declared.places.SectionPlace.{SectionPlace}
-use Rattle.eh_frame.specs.Entries.{end_place, op_pieces, counted_pieces, length_piece}
-use Rattle.eh_frame.specs.Pieces.{pieces_put, tables_of}
+use Rattle.table_pieces.specs.Ends.{end_place}
+use Rattle.table_pieces.specs.Pieces.{pieces_put, tables_of}
+use Rattle.eh_frame.specs.Entries.{op_pieces, counted_pieces, length_piece}
 use Rattle.eh_frame.proofs.entries.put_entry.Goals as goal
 
 pub returns-clause-ok : goal.returns-clause-ok

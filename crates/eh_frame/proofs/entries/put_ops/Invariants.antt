@@ -1,7 +1,7 @@
 -- The rest is put behind what is put so far.
 use Rattle.std.proofs.Common.{◌≡◌, ℕ, drop}
+use Rattle.table_pieces.specs.Pieces.{Takes, pieces_put, tables_of}
 use Rattle.eh_frame.specs.Entries.{op_pieces}
-use Rattle.eh_frame.specs.Pieces.{Takes, pieces_put, tables_of}
 use Rattle.eh_frame.proofs.entries.put_ops.Given as goal
 
 abbrev pub invariant-loop-placed : goal.invariant-loop-placed

@@ -3,4 +3,6 @@ use Rattle.eh_frame.proofs.AddedNames.{tables_add_little}
 use Rattle.eh_frame.proofs.laws.tables_add_little.Goals as goal
 
 pub returns : goal.returns
-returns c = tables_add_little
+returns c =
+    tables_add_little (record { pieces = c.pieces_stand_behind.ensures.pieces; extensions = c.pieces_stand_behind.ensures.extensions })
+    (record { pieces = c.places_are_named.ensures.pieces; same = c.places_are_named.ensures.same; on = c.places_are_named.ensures.on })

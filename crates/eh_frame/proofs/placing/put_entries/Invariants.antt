@@ -1,6 +1,6 @@
 -- The rest is put behind what is put so far.
 use Rattle.std.proofs.Common.{◌≡◌, drop}
-use Rattle.eh_frame.specs.Pieces.{Takes, tables_of}
+use Rattle.table_pieces.specs.Pieces.{Takes, tables_of}
 use Rattle.eh_frame.specs.Placing.{entries_put, entries_behind}
 use Rattle.eh_frame.proofs.placing.put_entries.Given as goal
 

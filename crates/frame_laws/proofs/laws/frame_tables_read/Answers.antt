@@ -1,38 +1,22 @@
 -- What the lower laws say is what is known of all tables.
-use Rattle.frame_laws.proofs.Tables.{TableFacts, tables_read}
+use Rattle.cfi_rows.specs.Entries.{common_bytes}
+use Rattle.frame_laws.proofs.Tables.{tables_read}
 use Rattle.frame_laws.proofs.laws.frame_tables_read.Goals as goal
 
 pub returns : goal.returns
 returns c =
     tables_read (record {
       pieces = record {
-        file = record {
-          layouts = c.layouts_keep_sections.ensures;
-          bytes = c.bytes_stand.ensures;
-          values = c.values_stand.ensures;
-          items = c.items_stand.ensures;
-          one = c.fields_have_one_relocation.ensures.said;
-          addresses = c.sizes_add_up.ensures.item;
-        };
-        labels = record {
-          named = c.places_are_named.ensures.named;
-          known = c.places_are_named.ensures.known;
-          stays = c.places_are_named.ensures.stays;
-          pieces = c.places_are_named.ensures.pieces;
-        };
-        held = c.distances_are_held.ensures.held;
-        expanded = c.distances_are_held.ensures.expanded;
-        apart = c.distances_are_held.ensures.places;
-        room = c.settled_items_have_room.ensures;
-        sized = c.bytes_are_sized.ensures;
+        file = c.tables_are_in_file.ensures;
+        places = c.places_rise.ensures;
+        labels = record { known = c.places_are_named.ensures.known; stays = c.places_are_named.ensures.stays; pieces = c.places_are_named.ensures.pieces };
       };
-      two_terms = c.distances_have_two_terms.ensures;
+      layouts = c.layouts_keep_sections.ensures;
+      keeping = c.sections_keep_places.ensures;
       read = c.entries_read.ensures.read;
-      shift = c.sizes_add_up.ensures.shift;
-      found = c.pieces_are_found.ensures.table;
-      behind = c.pieces_stand_behind.ensures.table;
-      labels = c.labels_stand.ensures;
+      found = c.tables_are_found.ensures;
+      behind = c.tables_stand_behind.ensures.table;
       few = c.labels_are_few.ensures;
       reaches = c.ends_are_counted.ensures.pieces;
-      common_reaches = c.ends_are_counted.ensures.common;
+      common_reaches = λ section pos tables. c.ends_are_counted.ensures.plain section pos common_bytes tables;
     })

@@ -1,7 +1,10 @@
+use Rattle.asm_values.specs.State.{nothing_placed}
 use Rattle.readback_laws.proofs.CodesInObject.{reads_back}
 use Rattle.readback_laws.proofs.CoveredFrames.{StandingFacts, are_covered}
 use Rattle.readback_laws.proofs.FramedSections.{TableFacts}
+use Rattle.readback_laws.proofs.StandingRows.{rows_stand}
 use Rattle.readback_laws.proofs.JumpsInObject.{JumpFacts}
+use Rattle.readback_laws.proofs.LinedSections.{LineFacts}
 use Rattle.readback_laws.proofs.PlacedFacts.{PlaceFacts}
 use Rattle.readback_laws.proofs.SettledObjects.{AreSettled}
 use Rattle.readback_laws.proofs.statements.statements_read_back.Goals as goal
@@ -14,7 +17,14 @@ returns c no_warn worked_out handed object from ready =
       bytes = c.bytes_stand.ensures;
       values = c.values_stand.ensures;
     } in
-    let table : TableFacts = record { put = c.pieces_are_found.ensures.table; labels = c.labels_stand.ensures } in
+    let table : TableFacts = record {
+      put = c.tables_are_found.ensures;
+      labels = c.labels_stand.ensures;
+      others = c.others_stay.ensures;
+      line_labels = c.labels_stand-2.ensures;
+      rows = λ statements no_warn whole is. rows_stand no_warn whole (c.lines_follow.ensures statements (nothing_placed no_warn) whole is);
+    } in
+    let lined : LineFacts = record { put = c.tables_are_found-2.ensures; few = c.labels_are_few.ensures } in
     let placing : PlaceFacts = record {
       begins = c.placing_within.ensures.begins;
       within = c.placing_within.ensures.kept;
@@ -46,5 +56,5 @@ returns c no_warn worked_out handed object from ready =
       ordered = c.procedures_stand_in_order.ensures;
     } in
     reads_back settled c.read_one_way.ensures c.bare_codes_read.ensures.read c.encodings_are_codes.ensures.fields
-    c.fields_stand_apart.ensures.places c.fields_stand_apart.ensures.values table placing jumps c.frame_tables_read.ensures no_warn worked_out handed object from
+    c.fields_stand_apart.ensures.places c.fields_stand_apart.ensures.values table lined placing jumps c.frame_tables_read.ensures no_warn worked_out handed object from
     (are_covered standing no_warn worked_out handed object from ready)

@@ -1,6 +1,7 @@
 use Rattle.asm_front.specs.Assembly.{told_of}
 use Rattle.recovery_laws.proofs.HandedBytes.{handed_spelled}
 use Rattle.recovery_laws.proofs.Recovering.{objects_recover}
+use Rattle.recovery_laws.proofs.TableFields.{lines_put}
 use Rattle.recovery_laws.proofs.recovered.objects_recover.Goals as goal
 
 pub returns : goal.returns
@@ -25,7 +26,8 @@ returns c =
       places = c.places_stand.ensures.kept;
       few = c.places_stand.ensures.few;
       order = c.functions_stand_in_order.ensures.whole;
-      put = c.pieces_are_found.ensures.table;
+      put = c.tables_are_found.ensures;
+      put_lines = lines_put c.tables_are_found-2.ensures;
       labelled = c.tables_add_labels.ensures.keeps;
       spelled = handed_spelled (c.handed_of_bytes_are_spelled.ensures told_of);
     })

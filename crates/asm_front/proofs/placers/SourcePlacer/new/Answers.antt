@@ -1,5 +1,5 @@
 use Rattle.std.proofs.Common.{sym, subst}
-use Rattle.asm_front.specs.Synthesis.{IsOrdered}
+use Rattle.asm_front.specs.PlacerStates.{IsOrdered}
 use Rattle.asm_front.proofs.OrderedStates.{first_ordered}
 use Rattle.asm_front.proofs.placers.SourcePlacer.new.Goals as goal
 

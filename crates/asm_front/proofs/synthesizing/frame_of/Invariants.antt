@@ -1,5 +1,0 @@
--- Nothing else counts on the ledger.
-use Rattle.asm_front.proofs.synthesizing.frame_of.Given as goal
-
-abbrev pub ghosts-table_of : goal.ghosts-table_of
-ghosts-table_of a = record { name = a.blank.name; parts = a.blank.parts }

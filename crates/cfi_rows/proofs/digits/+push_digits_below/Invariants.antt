@@ -1,4 +1,0 @@
-use Rattle.cfi_rows.proofs.digits.+push_digits_below.Given as goal
-
-abbrev pub decreases-push_digits_below : goal.decreases-push_digits_below
-decreases-push_digits_below l = l.more

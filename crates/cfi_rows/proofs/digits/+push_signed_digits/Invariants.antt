@@ -1,4 +1,0 @@
-use Rattle.cfi_rows.proofs.digits.+push_signed_digits.Given as goal
-
-abbrev pub decreases-push_signed_digits : goal.decreases-push_signed_digits
-decreases-push_signed_digits l = l.more

@@ -1,6 +1,0 @@
--- By what each piece brings.
-use Rattle.frame_laws.proofs.LabelSteps.{table_few}
-use Rattle.frame_laws.proofs.distances.labels_are_few.Goals as goal
-
-pub returns : goal.returns
-returns c = table_few c.ends_are_counted.ensures.pieces c.ends_are_counted.ensures.common

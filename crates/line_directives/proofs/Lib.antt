@@ -1,0 +1,4 @@
+pub mod RoomLemmas
+pub mod UnderLemmas
+pub mod MeaningLemmas
+pub mod WorkedLemmas

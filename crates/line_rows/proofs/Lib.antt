@@ -1,0 +1,10 @@
+pub mod Comparisons
+pub mod RunLemmas
+pub mod HeaderLemmas
+pub mod ReadBack
+pub mod RowLemmas
+pub mod SequenceLemmas
+pub mod TableLemmas
+pub mod WorkedTables
+pub mod GapLemmas
+pub mod PlaceLemmas

@@ -1,0 +1,10 @@
+pub mod Ops
+pub mod Machine
+pub mod Rows
+pub mod Walks
+pub mod Writing
+pub mod Header
+pub mod Tables
+pub mod WorkedRows
+pub mod Sections
+pub mod Places

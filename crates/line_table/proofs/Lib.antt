@@ -1,0 +1,16 @@
+mod HeaderLemmas
+mod UnderLemmas
+mod DirectoryLemmas
+mod ListedLemmas
+mod ResultLemmas
+mod PieceFacts
+mod NewTable
+mod EndLemmas
+mod SectionLemmas
+mod RefusedLemmas
+mod WorkedLemmas
+mod TableLemmas
+mod AddedNames
+mod RowPlaces
+mod LabelPlaces
+mod CountLemmas

@@ -1,0 +1,2 @@
+-- The definitions that contracts cite, in reading order.
+pub mod Locs

@@ -1,0 +1,5 @@
+-- The definitions that the contracts cite, in reading order.
+pub mod Synthesis
+pub mod Ending
+pub mod Finished
+pub mod Fitting

@@ -1,0 +1,10 @@
+mod LabelLemmas
+mod PutLemmas
+mod FormLemmas
+mod ExtendLemmas
+mod EndLemmas
+mod NamedPlaces
+mod FoundLemmas
+mod StandingLabels
+mod KeptPlaces
+mod CountedPieces
