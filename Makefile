@@ -33,7 +33,7 @@ check:
 	rt ci
 
 # What no clause can say: the built program on files and devices that fail, and its objects linked by gcc, those of
-# random C programs with them, and the frame tables of these, also step by step beside what calls really saved. Random
+# random C programs with them, and the frame tables of these, also step by step beside what calls really saved, and their line tables as debuggers read them. Random
 # expressions beside Python's integers, and the objects of random sources, those with macros too, and the code of
 # random instructions beside those of the machine's GNU as, and beside their Intel forms. The rows of the instruction
 # table beside the machine's objdump, and what is made of them: a document, and the indices and keys by which they are
@@ -54,6 +54,7 @@ check-outside: all
 	checks/intel.py --ours build/as
 	checks/frames.py --ours build/as
 	checks/steps.py --ours build/as
+	checks/lines.py --ours build/as
 	checks/rows.py
 	checks/stacks.py
 	tools/instructions.py --check

@@ -299,10 +299,18 @@ def byte_lines() -> Iterator[str]:
 
 
 def debug() -> Iterator[str]:
-    """What gcc makes of `programs.c` at -O2 with debug information, over and over, each time with other names, without `.loc` and numbered `.file`."""
-    made = re.sub(r"^\t\.(?:loc|file \d)[^\n]*\n", "", compiled("-g", "-gno-as-loc-support", str(PROGRAMS)), flags=re.MULTILINE)
-    pieces = cut_behind_names(made)
-    return (f"_{n}".join(pieces) for n in itertools.count())
+    """What gcc makes of `programs.c` at -O2 with debug information, over and over, each time with other names; its files get their numbers once."""
+    made = compiled("-g", "-gno-variable-location-views", str(PROGRAMS))
+    yield "".join(re.findall(r"^\t\.file \d[^\n]*\n", made, re.MULTILINE))
+    pieces = cut_behind_names(re.sub(r"^\t\.file \d[^\n]*\n", "", made, flags=re.MULTILINE))
+    yield from (f"_{n}".join(pieces) for n in itertools.count())
+
+
+def loc() -> Iterator[str]:
+    """An instruction and a row of the line table in turn."""
+    yield '\t.file 1 "loc.c"\n'
+    for n in itertools.count():
+        yield f"\tnop\n\t.loc 1 {n * 37 % 20000 + 1} {n % 50}\n"
 
 
 def space() -> Iterator[str]:
@@ -320,7 +328,7 @@ SOURCES_OF_LINES: list[tuple[Callable[[], Iterator[str]], list[int]]] = [
     (code, SIZES_IN_LINES), (functions, SIZES_IN_LINES), (frames, [100_000]), (intel, [100_000]), (programs, SIZES_IN_LINES), (data, SIZES_IN_LINES), (relocations, SIZES_IN_LINES),
     (distances, [100_000]), (fills, [100_000]), (alignments, [100_000]), (jumps, [400_000]), (cascade, [10_000]), (leb128, [64_000]), (sections, [60_000]),
     (chain, [20_000]), (chain_back, [20_000]), (late_chain, [16_000]), (sums, [10_000]), (calls, [20_000]), (macros, [40_000]), (copies, [4]), (zeros, [3]),
-    (unlettered, [6]), (cancelling, [300_000]), (assigned, [100_000]), (unsigned_numbers, [300_000]), (signed_numbers, [300_000]), (byte_lines, [300_000]), (debug, [160_000]),
+    (unlettered, [6]), (cancelling, [300_000]), (assigned, [100_000]), (unsigned_numbers, [300_000]), (signed_numbers, [300_000]), (byte_lines, [300_000]), (debug, [100_000, 1_000_000]), (loc, [1_000_000]),
     (empty, [1]), (space, [16]),
 ]
 # Texts of `--self-load` of so many functions.

@@ -19,11 +19,12 @@ mkdir -p $room/apt/lists/partial $room/apt/archives/partial
 room=$(realpath $room)
 mirror=${DEBIAN_MIRROR:-http://deb.debian.org/debian}
 suite=${DEBIAN_SUITE:-bookworm}
-common='-g0 -mtune=nehalem'
-sets=('-O0' '-O2' '-Os' '-O2 -fPIC' '-O2 -masm=intel' '-O0 -masm=intel' '-O2 -fno-asynchronous-unwind-tables')
+common='-mtune=nehalem'
+sets=('-g0 -O0' '-g0 -O2' '-g0 -Os' '-g0 -O2 -fPIC' '-g0 -O2 -masm=intel' '-g0 -O0 -masm=intel'
+    '-g0 -O2 -fno-asynchronous-unwind-tables' '-g -gno-variable-location-views -O2')
 
 # What is known to be refused: addresses that are numbers, `ds:0`, which gcc writes in two files.
-known='lua5.4 -O2 -masm=intel: refused: 2 bad operand; in 2 files'
+known='lua5.4 -g0 -O2 -masm=intel: refused: 2 bad operand; in 2 files'
 
 # The source of a package, in the folder that is printed.
 fetch() {
