@@ -1,11 +1,6 @@
 -- The proofs of this crate.
-mod SaidPieces
-mod MadeFiles
-mod Deliveries
-mod StartedFiles
 mod ReadsBackAgain
 mod RecoversAgain
-mod ReadableObjects
-mod StandingOutcomes
+mod Commands
 mod OneOutcome
 mod Samples

@@ -11,9 +11,9 @@ use Rattle.asm_functions.specs.FollowedSource.{FollowedSource, nothing_followed}
 use Rattle.source_ends.specs.Synthesis.{Synthesis, IsSynthesis}
 use Rattle.source_ends.specs.Ending.{Flags}
 use Rattle.asm_front.specs.Sources.{MainSource, file, given, name_of, source_in}
-use Rattle.asm_front.specs.Assembly.{Assembly, faulty, main_file, too_large, shown_files, placed_after, told_of, assembly_by, known_by, expansion_of, assembly_of, given_assembly, file_assembly, main_assembly, StepIsMade, SourceIsMade, FileIsMade, IsMade}
+use Rattle.asm_front.specs.Assembly.{faulty, main_file, too_large, shown_files, placed_after, told_of, assembly_by, known_by, expansion_of, assembly_of, given_assembly, file_assembly, main_assembly, StepIsMade, SourceIsMade, FileIsMade, IsMade}
 use Rattle.run_words.specs.Words.{Invocation}
-use Rattle.asm_run.specs.Outcome.{main_of_invocation, source_outcome, command_outcome, CommandIsMade}
+use Rattle.source_runs.specs.Outcome.{main_of_invocation, source_outcome, command_outcome, CommandIsMade}
 
 -- of all that was placed and followed there is one synthesis
 abbrev pub Law : Type 0

@@ -10,7 +10,7 @@ use Rattle.asm_front.specs.Assembly.{Assembly, assembled, faulty, assembly_of, h
 use Rattle.asm_front.specs.Assembly as assembly
 use Rattle.asm_front.specs.ReadsBack.{ReadsBack}
 use Rattle.run_words.specs.Words.{Invocation}
-use Rattle.asm_run.specs.Outcome.{flags_by, main_of_invocation, source_outcome}
+use Rattle.source_runs.specs.Outcome.{flags_by, main_of_invocation, source_outcome}
 use Rattle.asm_run.specs.ReadsBack.{OutcomeReadsBack, FileReadsBack, InvocationReadsBack, CommandReadsBack}
 
 -- the law of the definition

@@ -1,5 +1,5 @@
 -- What holds of the functions of every assembled source holds of those of the source that a command line names.
-use Rattle.std.proofs.Common.{◌≡◌, ◌<◌, ◌∙◌, ℕ, All, List, Option, None, Some, refl, subst, sym}
+use Rattle.std.proofs.Common.{◌≡◌, ◌<◌, ℕ, All, List, Option, None, Some, refl, subst}
 use Rattle.std.specs.Prelude.{◌^◌}
 use Rattle.asm_base.specs.Inputs.{Contents}
 use Rattle.expansion_laws.specs.Handing.{IsBytes, AreBytes}
@@ -12,7 +12,7 @@ use Rattle.asm_front.specs.Assembly as assembly
 use Rattle.load_text.specs.Load.{load_text}
 use Rattle.recovery_laws.specs.Sources.{SourceRecovers, ObjectsRecover}
 use Rattle.run_words.specs.Words.{Invocation}
-use Rattle.asm_run.specs.Outcome.{flags_by, main_by, main_of_invocation, source_outcome}
+use Rattle.source_runs.specs.Outcome.{flags_by, main_by, main_of_invocation, source_outcome}
 use Rattle.asm_run.specs.Recovers.{OutcomeRecovers, FileRecovers, InvocationRecovers, CommandRecovers}
 
 -- the text of each number of functions is bytes

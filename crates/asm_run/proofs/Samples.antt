@@ -98,7 +98,8 @@ use Rattle.asm_macro.specs.Expansion.{started, conditional, branch_end, conditio
 use Rattle.asm_macro.specs.Placing.{steps, fails}
 use Rattle.clap.proofs.OnLiterals.{clap_on_literals}
 use Rattle.run_words.specs.Words.{Invocation, as_app, asked_by, command_of, faults_of, invocation_of, rows_of_words, taken_of, usage_text}
-use Rattle.asm_run.specs.Outcome.{Outcome, usage, missing, refused, object, flags_by, source_outcome, outcome}
+use Rattle.source_runs.specs.Outcome.{Outcome, usage, missing, refused, object, flags_by, source_outcome}
+use Rattle.asm_run.specs.Outcome.{outcome}
 use Rattle.asm_relax.specs.Faults.{first_of}
 use Rattle.asm_symbols.specs.Looking.{told}
 

@@ -1,7 +1,6 @@
 -- The definitions that the contracts cite, in reading order.
-pub mod Summary
 pub mod Outcome
-pub mod Answers
+pub mod Completes
+pub mod Readable
 pub mod ReadsBack
 pub mod Recovers
-pub mod Readable

@@ -8,7 +8,7 @@ use Rattle.asm_front.specs.Assembly.{assembly_of, handed_of, IsMade}
 use Rattle.source_ends.specs.Ending.{Flags}
 use Rattle.asm_front.specs.ReadsBack.{ReadsBack}
 use Rattle.run_words.specs.Words.{Invocation}
-use Rattle.asm_run.specs.Outcome.{Outcome, usage, missing, refused, object, flags_by, main_of_invocation, source_outcome}
+use Rattle.source_runs.specs.Outcome.{Outcome, usage, missing, refused, object, flags_by, main_of_invocation, source_outcome}
 
 -- in an object the place of each instruction in a section with bytes in the file reads as the instruction that was handed out, and as no other, and the
 -- frame table as the rows that directives mean

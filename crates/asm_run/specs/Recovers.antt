@@ -9,7 +9,7 @@ use Rattle.asm_front.specs.Assembly.{assembly_of, IsMade}
 use Rattle.source_ends.specs.Ending.{Flags}
 use Rattle.recovery_laws.specs.Sources.{SourceRecovers}
 use Rattle.run_words.specs.Words.{Invocation}
-use Rattle.asm_run.specs.Outcome.{Outcome, object, flags_by, main_of_invocation, source_outcome}
+use Rattle.source_runs.specs.Outcome.{Outcome, object, flags_by, main_of_invocation, source_outcome}
 
 -- the functions of the source of this name recover in the object: the rows that their entries in
 -- `.eh_frame` give lead to the caller, along each execution in which calls keep the registers, the

@@ -1,8 +1,6 @@
-//! From what the words of a command line ask for to the answer of a run.
+//! From the words of a command line to the answer of a run.
 #![tactic(auto)]
 
 mod running;
-mod saying;
-mod summary;
 
-pub use running::{deliver, run};
+pub use running::run;

@@ -2,7 +2,7 @@
 use Rattle.std.proofs.Common.{◌≡◌, map, None, Some, string_bytes, refl}
 use Rattle.run_words.specs.Invoked.{invoked}
 use Rattle.run_words.specs.Words.{command_of, usage_text}
-use Rattle.asm_run.proofs.StandingOutcomes.{command_answers, command_is_readable, command_reads, command_starts, command_stops, usage_completes, usage_said}
+use Rattle.asm_run.proofs.Commands.{command_answers, command_is_readable, command_reads, command_starts, command_stops, usage_completes, usage_said}
 use Rattle.asm_run.proofs.running.run.Goals as goal
 
 pub returns-in-Ok-Some-clause-answer : goal.returns-in-Ok-Some-clause-answer

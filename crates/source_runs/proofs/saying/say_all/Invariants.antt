@@ -2,7 +2,7 @@
 use Rattle.std.proofs.Common.{◌≡◌, ◌-◌, ◌≤◌, length, take}
 use Rattle.std.specs.Option.{option_map}
 use Rattle.asm_base.specs.Console.{after_say}
-use Rattle.asm_run.proofs.saying.say_all.Given as goal
+use Rattle.source_runs.proofs.saying.say_all.Given as goal
 
 abbrev pub invariant-pieces : goal.invariant-pieces
 invariant-pieces g l = record {

@@ -1,5 +1,5 @@
 -- What is said and made of an answer of the assembly, whole or in part, by what the main source stands for.
-use Rattle.std.proofs.Common.{◌≡◌, ℕ, List, Bool, Option, None, Some, Result, Ok, Err, [], drop, is_some, length, refl, sym, ap, ap₂, ◌∙◌, inl, inr, subst, arith}
+use Rattle.std.proofs.Common.{◌≡◌, ℕ, List, Option, None, Some, Ok, Err, [], drop, is_some, length, refl, sym, ap, ap₂, ◌∙◌, inl, inr, subst, arith}
 use Rattle.std.specs.Option.{option_map}
 use Rattle.std.proofs.Math.Seq.{take-length}
 use Rattle.asm_base.specs.Console.{Said, after_say}
@@ -11,15 +11,14 @@ use Rattle.asm_base.specs.declared.faults.Fault.{Fault}
 use Rattle.asm_base.specs.declared.notes.Noted.{Noted}
 use Rattle.asm_base.specs.declared.positions.Pos.{Pos}
 use Rattle.asm_front.specs.declared.answers.Assembled.{Assembled}
-use Rattle.asm_front.specs.declared.answers.AsmFault.{AsmFault}
 use Rattle.asm_front.specs.declared.answers.AsmFault.TheVariants.{Source}
 use Rattle.source_ends.specs.declared.ending.Counts.{Counts}
 use Rattle.asm_front.specs.Assembly.{Assembly}
 use Rattle.asm_front.specs.Outcome.{AssemblesAs, AssemblesKnown}
 use Rattle.run_words.specs.Words.{Invocation}
-use Rattle.asm_run.specs.Summary.{summary_by}
-use Rattle.asm_run.specs.Outcome.{Outcome, refused, object, source_outcome}
-use Rattle.asm_run.specs.Answers.{Effects, SaidFront, SaidAll, SaidInPart, Refuses, RefusesInPart, MakesFileInPart, MakesInPart, MakesObject, IsDone, IsSourceFault, IsWriteFault, is_summed}
+use Rattle.source_runs.specs.Summary.{summary_by}
+use Rattle.source_runs.specs.Outcome.{refused, object, source_outcome}
+use Rattle.source_runs.specs.Answers.{Effects, SaidFront, SaidAll, SaidInPart, Refuses, RefusesInPart, MakesFileInPart, MakesInPart, MakesObject, IsDone, IsSourceFault, IsWriteFault, is_summed}
 
 -- WHAT IS SAID
 

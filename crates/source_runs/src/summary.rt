@@ -3,7 +3,7 @@
 ghost use Rattle.std.specs.Prelude.{◌≡◌, ◌++◌, IfOk, OnOk, length};
 ghost use Rattle.std.specs.Option.{option_map};
 ghost use Rattle.asm_base.specs.Messages.{remarks};
-ghost use Rattle.asm_run.specs.Summary.{layout_lines, summary_by, summary_line, summary_text};
+ghost use Rattle.source_runs.specs.Summary.{layout_lines, summary_by, summary_line, summary_text};
 
 use asm_base::{Bytes, NoMemory, remarks};
 use asm_front::Assembled;

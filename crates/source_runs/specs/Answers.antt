@@ -15,7 +15,7 @@ use Rattle.asm_macro.specs.Starts.{IsFront, ReadsFront}
 use Rattle.asm_front.specs.Sources as sources
 use Rattle.asm_front.specs.Sources.{MainSource, started_for}
 use Rattle.run_words.specs.Words.{Invocation, output_of, usage_text}
-use Rattle.asm_run.specs.Outcome.{Outcome, usage, missing, refused, object}
+use Rattle.source_runs.specs.Outcome.{Outcome, usage, missing, refused, object}
 
 -- what the console and the output tell before the run and after it
 pub record Effects : Type 0 where
@@ -154,14 +154,6 @@ Answers command outcome Usage e = IsUsage outcome e
 Answers command outcome ReadFault e = IsReadFault outcome e
 Answers command outcome WriteFault e = IsWriteFault command outcome e
 Answers command outcome NoMemory e = IsNoMemory outcome e
-
--- the status where no call fails: that of the outcome, or want of memory
-abbrev pub Completes : Option Outcome → Status → Type 0
-Completes None status = (status ≡ Done) ⊎ (status ≡ SourceFault) ⊎ (status ≡ NoMemory)
-Completes (Some usage) status = (status ≡ Usage) ⊎ (status ≡ NoMemory)
-Completes (Some (missing included)) status = status ≡ NoMemory
-Completes (Some (refused messages included)) status = (status ≡ SourceFault) ⊎ (status ≡ NoMemory)
-Completes (Some (object name bytes messages summary included)) status = (status ≡ Done) ⊎ (status ≡ NoMemory)
 
 -- the count of starts of what has no contents is as before, but for a missing file
 abbrev pub CountsMissingOutcome : Option Outcome → ℕ → ℕ → Type 0

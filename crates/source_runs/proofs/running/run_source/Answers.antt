@@ -1,8 +1,8 @@
 -- What the answer of the assembly says of files and of the object, and what is left where the output or the console fails.
 use Rattle.std.proofs.Common.{◌∙◌, refl}
 use Rattle.run_words.specs.Invoked.{invoked}
-use Rattle.asm_run.proofs.StandingOutcomes.{all_missed, all_started, all_stopped, files_read, found, object_begun, object_made, source_cut}
-use Rattle.asm_run.proofs.running.run_source.Goals as goal
+use Rattle.source_runs.proofs.StandingOutcomes.{all_missed, all_started, all_stopped, files_read, found, object_begun, object_made, source_cut}
+use Rattle.source_runs.proofs.running.run_source.Goals as goal
 
 pub returns-in-Ok-deliver-clause-answer : goal.returns-in-Ok-deliver-clause-answer
 returns-in-Ok-deliver-clause-answer g c =

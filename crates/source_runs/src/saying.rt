@@ -4,7 +4,7 @@ ghost use Rattle.std.specs.Prelude.{◌≡◌, ℕ, ◌≤◌, length, take, OnE
 ghost use Rattle.std.specs.Option.{option_map};
 ghost use Rattle.asm_base.specs.Counts.{HasCause};
 ghost use Rattle.asm_base.specs.Console.{after_say};
-ghost use Rattle.asm_run.specs.Answers.{SaidAll, SaidInPart};
+ghost use Rattle.source_runs.specs.Answers.{SaidAll, SaidInPart};
 
 use asm_base::{Channel, Console, Failed};
 

@@ -1,7 +1,7 @@
 -- The files that a run starts: how often one is not there, and how they are read.
-use Rattle.std.proofs.Common.{◌≡◌, ℕ, ◌+◌, ◌*◌, ◌≤◌, inl, inr, List, [], ◌∷◌, ◌++◌, drop, length, Option, None, Some, Ok, refl, sym, ap, ◌∙◌, subst, append-nil, append_assoc, arith}
+use Rattle.std.proofs.Common.{◌≡◌, ℕ, ◌+◌, ◌*◌, ◌≤◌, inl, inr, List, [], ◌++◌, drop, length, Option, None, Some, Ok, refl, sym, ap, ◌∙◌, subst, append-nil, append_assoc, arith}
 use Rattle.std.specs.Option.{option_map}
-use Rattle.asm_base.specs.History.{FileEvent, happened, whole_files}
+use Rattle.asm_base.specs.History.{FileEvent, happened}
 use Rattle.asm_base.specs.Inputs.{Contents}
 use Rattle.asm_base.specs.WholeFile.{most_bytes}
 use Rattle.source_ends.specs.Synthesis.{Synthesis}
@@ -9,12 +9,12 @@ use Rattle.source_ends.specs.Ending.{Flags}
 use Rattle.asm_front.specs.Sources.{MainSource, file, given, name_of, started_for, source_in}
 use Rattle.asm_front.specs.Assembly.{Assembly, assembled, faulty, included_by, assembly_of, file_assembly, main_assembly}
 use Rattle.asm_front.specs.Assembly as assembly
-use Rattle.asm_front.specs.Outcome.{AssemblesAs, AssemblesKnown, CountsKnown, CountsMissed, CountsMissingFiles, CountsMisses, NamesFiles, ReadsFiles, StartsFiles, StartsFirst, StartsKnown, StopsAtEnd, TakesFiles}
+use Rattle.asm_front.specs.Outcome.{AssemblesKnown, CountsKnown, CountsMissed, CountsMissingFiles, CountsMisses, NamesFiles, ReadsFiles, StartsFiles, StartsFirst, StartsKnown, StopsAtEnd, TakesFiles}
 use Rattle.asm_front.specs.Outcome as front
 use Rattle.asm_front.specs.declared.answers.Assembled.{Assembled}
-use Rattle.asm_macro.specs.Starts.{IsFront, ReadsFront}
-use Rattle.asm_run.specs.Answers.{CountsMissingOutcome, IncludesThese, ReadsAll, ReadsToEnd, StartsFront, StartsThese}
-use Rattle.asm_run.specs.Outcome.{Outcome, usage, missing, refused, object, flags_by, main_of_invocation, source_outcome, invocation_outcome}
+use Rattle.asm_macro.specs.Starts.{IsFront}
+use Rattle.source_runs.specs.Answers.{CountsMissingOutcome, IncludesThese, ReadsAll, ReadsToEnd, StartsFront, StartsThese}
+use Rattle.source_runs.specs.Outcome.{Outcome, usage, missing, refused, object, flags_by, main_of_invocation, source_outcome, invocation_outcome}
 use Rattle.run_words.specs.Words.{Invocation}
 
 -- WHAT IS NOT THERE

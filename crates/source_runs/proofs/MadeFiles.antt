@@ -2,7 +2,7 @@
 use Rattle.std.proofs.Common.{◌≡◌, ℕ, List, Option, None, Some, refl}
 use Rattle.std.specs.Option.{option_map}
 use Rattle.asm_base.specs.Output.{Made, after_create, after_write, after_finish}
-use Rattle.asm_run.specs.Answers.{MakesFile}
+use Rattle.source_runs.specs.Answers.{MakesFile}
 
 -- a file that is created, written whole and finished
 pub made_whole : (name bytes : List ℕ) (before created written finished : Option Made) →

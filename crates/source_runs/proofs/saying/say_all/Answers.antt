@@ -1,8 +1,8 @@
 -- What was said before and the piece are a front of the text.
 use Rattle.std.proofs.Common.{arith}
 use Rattle.std.proofs.lemmas.Grind.{common_steps}
-use Rattle.asm_run.proofs.SaidPieces.{said_on}
-use Rattle.asm_run.proofs.saying.say_all.Goals as goal
+use Rattle.source_runs.proofs.SaidPieces.{said_on}
+use Rattle.source_runs.proofs.saying.say_all.Goals as goal
 
 pub pieces-preserved : goal.pieces-preserved
 pieces-preserved g c = record {

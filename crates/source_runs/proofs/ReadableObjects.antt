@@ -1,5 +1,5 @@
 -- What is found in the object of an assembly is found in what the command line stands for.
-use Rattle.std.proofs.Common.{◌≡◌, ℕ, List, Option, None, Some, Ok, sym, subst}
+use Rattle.std.proofs.Common.{ℕ, List, Option, None, Some, Ok, sym, subst}
 use Rattle.asm_base.specs.Inputs.{Contents}
 use Rattle.asm_front.specs.Sources.{name_of, source_in}
 use Rattle.asm_front.specs.Assembly.{Assembly, handed_of}
@@ -9,8 +9,8 @@ use Rattle.asm_front.specs.Fitting.{SourceIsReadable}
 use Rattle.asm_front.specs.Outcome.{Assembles, AssemblesFile}
 use Rattle.asm_front.specs.declared.answers.Assembled.{Assembled}
 use Rattle.run_words.specs.Words.{Invocation}
-use Rattle.asm_run.specs.Outcome.{flags_by, main_of_invocation, source_outcome}
-use Rattle.asm_run.specs.Readable.{OutcomeIsReadable, FileIsReadable, InvocationIsReadable}
+use Rattle.source_runs.specs.Outcome.{flags_by, main_of_invocation, source_outcome}
+use Rattle.source_runs.specs.Readable.{OutcomeIsReadable, FileIsReadable, InvocationIsReadable}
 
 of_file : (invocation : Invocation) (held : Synthesis) (contents : Contents) (name : List ℕ) (source : Option (List ℕ)) (made : Assembled)
     → AssemblesFile (flags_by invocation held) contents name source (Ok made) → front.FileIsReadable (flags_by invocation held) contents name source (Ok made)
