@@ -3,7 +3,8 @@
 
     checks/lines.py --ours build/as [--gnu /usr/bin/as] [--count 20] [--seed 1] [--keep DIR] [C_FILE..]
 
-The sources are `bench/programs.c`, random programs of `bench/c_programs.py` from the seed on, and the C files that are named (their includes are looked for beside them). gcc -g compiles each
+The sources are `bench/programs.c`, random programs of `bench/c_programs.py` from the seed on, and the C files that are named (their includes are looked for beside them; a symbol of
+another file has to stay open, so that none is hidden). gcc -g compiles each
 at -O0 and at -O2, and clang -g, where it is there; thread-local variables are made plain ones before. Each object is linked alone, names that it lacks left open. Compared is, for each
 instruction but no-operations, in their order, what the last row at or before it says. So padding is left out, since GNU as keeps a `.loc` before it for the instruction behind it, and that a
 jump is near in one object alone; and so is where our object says line 0, no line at all, of which GNU as makes no row. Then `gdb` sets a breakpoint by its line in a program, prints where it
@@ -143,7 +144,7 @@ def main() -> int:
     compilers = [GCC] + ([CLANG] if shutil.which("clang") else [])
     sources = [("programs.c", (HERE.parent / "bench" / "programs.c").read_text(encoding="utf-8"), [])]
     sources += [(f"random_{number}.c", c_program(number), []) for number in range(options.seed, options.seed + options.count)]
-    sources += [(file.name, file.read_text(encoding="utf-8", errors="replace"), ["-I", str(file.resolve().parent)]) for file in options.files]
+    sources += [(file.name, file.read_text(encoding="utf-8", errors="replace"), ["-I", str(file.resolve().parent), "-Dvisibility(x)=unused"]) for file in options.files]
     kept, failed, compared, rows = options.keep, 0, 0, 0
     for name, text, includes in sources:
         for compiler in compilers:
