@@ -41,9 +41,13 @@ filed pos number directory name table = file_taken (is_given number directory na
 abbrev pub with_sequences : List (Option Sequence) → LineTable → LineTable
 with_sequences sequences table = record table { sequences = sequences }
 
+-- the table with a row behind those of its section
+abbrev pub with_section_row : SectionPlace → LineRow → LineTable → LineTable
+with_section_row at row table = with_sequences (with_row_in at row table.sequences) table
+
 -- the table with a row, of which `is_stmt` and `isa` stay
 abbrev pub with_line : SectionPlace → LineRow → LineTable → LineTable
-with_line at row table = record (with_sequences (with_row_in at row table.sequences) table) { is_stmt = row.is_stmt; isa = row.isa }
+with_line at row table = record (with_section_row at row table) { is_stmt = row.is_stmt; isa = row.isa }
 
 -- `.loc`: its file number is one that a `.file` before it gave
 abbrev pub located : LocLine → SectionPlace → LineTable → Result LineTable LineTableCause

@@ -65,6 +65,7 @@ alone name = record { directory = None; name = name }
 abbrev pub table : List (Option Sequence) → LineTable
 table sequences = record no_lines { first = Some at_line; files = record { by_number = None ∷ Some (alone a_c) ∷ []; directories = [] }; sequences = sequences }
 
+-- what tables come to: the sources in the comments show the directives, the places are the numbers that stand with them
 pub record WorkedLines : Type 0 where
   -- .file 1 "a.c" / nop / .loc 1 2
   pub one_row : table_of (file 1 a_c ∷ loc_at 0 (behind 0 1) (line_of 1 2 0) ∷ [])

@@ -39,7 +39,6 @@ impl Model for Lines {
 
 impl Lines {
     ghost use Rattle.std.specs.Prelude.{◌≡◌, OnOk};
-    ghost use Rattle.line_directives.specs.Sequences.{with_row_in};
     ghost use Rattle.line_directives.specs.Taking as spec;
 
     /// No directive.
@@ -66,7 +65,8 @@ impl Lines {
         directory: Option<Bytes>,
         name: Bytes,
     ) -> Result<(), LineTableFault>
-        ensures { spec.Changes self.old self.new result (spec.filed pos number directory name self.old) }
+        ensures { spec.Changes self.old self.new result
+            (spec.filed pos number directory name self.old) }
     {
         match self.files.is_given(number, &directory, &name) {
             Some(true) => Ok(()),
@@ -82,7 +82,7 @@ impl Lines {
     /// Puts a row last among those of its section.
     #[tactic(auto, using(crate::proofs::UnderLemmas::at_place))]
     fn add(&mut self, row: &LineRow, at: SectionPlace) -> Result<(), AllocError>
-        ensures { OnOk result (self.new ≡ spec.with_sequences (with_row_in at row.now self.old.sequences) self.old) }
+        ensures { OnOk result (self.new ≡ spec.with_section_row at row.now self.old) }
     {
         let section = at.section as usize;
         make_room(&mut self.sequences, section + 1)?;

@@ -36,11 +36,12 @@ behind_path (byte ∷ rest) = if byte == 0 then Some rest else behind_path rest
 abbrev pub behind_file : List ℕ → Option (List ℕ)
 behind_file bytes = option_and_then (λ rest. option_map (λ directory. directory.1) (uleb rest)) (behind_path bytes)
 
--- what follows so many paths, and so many files
+-- what follows so many paths
 abbrev pub behind_paths : ℕ → List ℕ → Option (List ℕ)
 behind_paths zero bytes = Some bytes
 behind_paths (suc count) bytes = option_and_then (behind_paths count) (behind_path bytes)
 
+-- what follows so many files
 abbrev pub behind_files : ℕ → List ℕ → Option (List ℕ)
 behind_files zero bytes = Some bytes
 behind_files (suc count) bytes = option_and_then (behind_files count) (behind_file bytes)
@@ -62,6 +63,7 @@ in_unit (size, rest) =
     if (size == length rest) && nat_lt size 0xfffffff0
     then option_and_then (λ rest. option_and_then behind_header (four_bytes_of rest)) (behind version_bytes rest) else None
 
+-- the program of a table: all behind the length that it begins with
 abbrev pub program_of : List ℕ → Option (List ℕ)
 program_of table = option_and_then in_unit (four_bytes_of table)
 

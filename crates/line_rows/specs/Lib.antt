@@ -8,3 +8,4 @@ pub mod Tables
 pub mod WorkedRows
 pub mod Sections
 pub mod Places
+pub mod ReadingBack

@@ -24,6 +24,7 @@ first_row = record {
   epilogue_begin = false;
 }
 
+-- the machine where a sequence begins: no row yet, at address 0
 abbrev pub start : Machine
 start = record { address = 0; first = None; row = first_row }
 
@@ -35,6 +36,7 @@ first_of machine = unwrap_or machine.first machine.address
 abbrev pub distance_from : ℕ → ℕ → Option ℕ
 distance_from first address = if nat_le first address && nat_lt (address - first) (2 ^ 64) then Some (address - first) else None
 
+-- how far the machine's address is from the sequence's first
 abbrev pub distance : Machine → Option ℕ
 distance machine = distance_from (first_of machine) machine.address
 
@@ -42,6 +44,7 @@ distance machine = distance_from (first_of machine) machine.address
 abbrev pub register : ℕ → Option ℕ
 register value = if nat_lt value (2 ^ 32) then Some value else None
 
+-- the same of a number that may be below 0, which no register holds
 abbrev pub register_at : ℤ → Option ℕ
 register_at (pos value) = register value
 register_at (negsuc value) = None

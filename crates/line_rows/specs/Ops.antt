@@ -10,11 +10,12 @@ use Rattle.leb128.specs.Reading.{uleb, sleb}
 abbrev pub Reader : Type 0 → Type 0
 Reader A = List ℕ → Option (A × List ℕ)
 
--- numbers in two and four bytes, the lowest first
+-- a number in two bytes, the lowest first
 abbrev pub two_bytes_of : Reader ℕ
 two_bytes_of (a ∷ b ∷ rest) = Some (a + b * 256, rest)
 two_bytes_of _ = None
 
+-- a number in four bytes, the lowest first
 abbrev pub four_bytes_of : Reader ℕ
 four_bytes_of (a ∷ b ∷ c ∷ d ∷ rest) = Some (a + b * 256 + c * 65536 + d * 16777216, rest)
 four_bytes_of _ = None

@@ -17,10 +17,12 @@ pub record PlacedRows : Type 0 where
   pub end : ℕ
   pub digits : List ℕ
 
+-- the place of the last row, or this one where there is none
 abbrev pub last_place : ℕ → List PlacedRow → ℕ
 last_place place [] = place
 last_place place (next ∷ rows) = last_place next.place rows
 
+-- the rows behind one at this place, each with its distance from the one before it
 abbrev pub later_of : ℕ → List PlacedRow → List Later
 later_of place [] = []
 later_of place (next ∷ rows) =

@@ -54,5 +54,6 @@ gap_count [] = 0
 gap_count ((Known distance, row) ∷ rows) = gap_count rows
 gap_count ((Between from to, row) ∷ rows) = gap_count rows + 1
 
+-- the LEB128 bytes of advances
 abbrev pub digits_of : List Advance → List (List ℕ)
 digits_of advances = map (λ advance. advance.digits) advances

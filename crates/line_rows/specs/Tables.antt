@@ -13,6 +13,7 @@ abbrev pub paths_then : List (List ℕ) → List ℕ → List ℕ
 paths_then [] tail = tail
 paths_then (path ∷ paths) tail = path ++ 0x00 ∷ paths_then paths tail
 
+-- files, each a path that a zero ends and the number of its directory, before other bytes
 abbrev pub files_then : List File → List ℕ → List ℕ
 files_then [] tail = tail
 files_then ((path, directory) ∷ files) tail = path ++ 0x00 ∷ (uleb_bytes directory ++ files_then files tail)
@@ -33,10 +34,12 @@ abbrev pub IsPath : List ℕ → Type 0
 IsPath [] = Unit {0}
 IsPath (byte ∷ path) = (byte ≢ 0) × IsPath path
 
+-- no path has a zero
 abbrev pub ArePaths : List (List ℕ) → Type 0
 ArePaths [] = Unit {0}
 ArePaths (path ∷ paths) = IsPath path × ArePaths paths
 
+-- no path of a file has a zero, and the numbers of directories fit in 64 bits
 abbrev pub AreFiles : List File → Type 0
 AreFiles [] = Unit {0}
 AreFiles ((path, directory) ∷ files) = IsPath path × (directory < 2 ^ 64) × AreFiles files

@@ -16,6 +16,7 @@ seen at line (Done answer) = Done answer
 seen at (place, Some row) (Looking left found) = if (left == 0) && nat_le place at then Looking 0 (Some row) else Looking left found
 seen at (place, None) (Looking left found) = if nat_lt 0 left then Looking (left - 1) None else if nat_lt at place then Done found else Done None
 
+-- the search behind an operation, which may append no row
 abbrev pub seen_if : ℕ → Option Line → Search → Search
 seen_if at None search = search
 seen_if at (Some line) search = seen at line search
@@ -30,11 +31,13 @@ looked at (Looking (suc left) found) lines = row_in_lines (suc left) at lines
 abbrev pub ran : ℕ → ℕ → List ℕ → Walk → Option LineRow
 ran at most bytes walk = option_and_then (looked at walk.search) (option_and_then (lines_from walk.machine) (decoded most bytes))
 
+-- what a call that takes a step answers, and the walk behind it; none where the step has none
 abbrev pub SeesStep : ℕ → Option Step → Search → Option (Unit {0}) → Walk → Type 0
 SeesStep at None search answer new = answer ≡ None
 SeesStep at (Some (machine, line)) search answer new =
     (answer ≡ Some tt) × (new ≡ record { machine = machine; search = seen_if at line search })
 
+-- the same of an operation
 abbrev pub Sees : ℕ → LineOp → Walk → Option (Unit {0}) → Walk → Type 0
 Sees at op old answer new = SeesStep at (step op old.machine) old.search answer new
 

@@ -49,6 +49,7 @@ pub record TableRows : Type 0 where
 abbrev pub Has : List ℕ → ℕ → LineRow → Type 0
 Has program at row = row_in_program (program ++ 0x02 ∷ 0x01 ∷ 0x00 ∷ 0x01 ∷ 0x01 ∷ []) 0 at ≡ Some row
 
+-- such a program has no row at its beginning
 abbrev pub HasNone : List ℕ → Type 0
 HasNone program = row_in_program (program ++ 0x02 ∷ 0x01 ∷ 0x00 ∷ 0x01 ∷ 0x01 ∷ []) 0 0 ≡ None
 

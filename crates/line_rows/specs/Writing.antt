@@ -19,22 +19,38 @@ differs false b = b
 abbrev pub discriminator_bytes : ℕ → List ℕ
 discriminator_bytes number = 0x00 ∷ (length (uleb_bytes number) + 1) ∷ 0x04 ∷ uleb_bytes number
 
+-- bytes that a call puts last; where it is refused all is as it was
+abbrev pub Appends : Bool → List ℕ → List ℕ → List ℕ → Type 0
+Appends ok bytes old new = new ≡ (if ok then old ++ bytes else old)
+
 -- bytes that stand where a register differs
 abbrev pub unless : Bool → List ℕ → List ℕ
 unless same bytes = if same then [] else bytes
 
+-- a register's new value behind the opcode that sets it, where it differs
+abbrev pub changed_bytes : ℕ → ℕ → ℕ → List ℕ
+changed_bytes code before now = unless (before == now) (code ∷ uleb_bytes now)
+
+-- a discriminator, where there is one
+abbrev pub given_discriminator : ℕ → List ℕ
+given_discriminator number = unless (number == 0) (discriminator_bytes number)
+
+-- a line's step, where there is one
+abbrev pub line_bytes : ℕ → ℕ → List ℕ
+line_bytes before now = unless (before == now) (0x03 ∷ sleb_bytes (pos now -ℤ pos before))
+
 -- the bytes before a row's advance: what differs from the registers, in this order
 unfoldable pub row_bytes : Registers → LineRow → List ℕ
 row_bytes before row =
-    unless (before.file == row.file) (0x04 ∷ uleb_bytes row.file)
-    ++ unless (before.column == row.column) (0x05 ∷ uleb_bytes row.column)
-    ++ unless (row.discriminator == 0) (discriminator_bytes row.discriminator)
-    ++ unless (before.isa == row.isa) (0x0c ∷ uleb_bytes row.isa)
+    changed_bytes 0x04 before.file row.file
+    ++ changed_bytes 0x05 before.column row.column
+    ++ given_discriminator row.discriminator
+    ++ changed_bytes 0x0c before.isa row.isa
     ++ unless (not (differs before.is_stmt row.is_stmt)) (0x06 ∷ [])
     ++ unless (not row.basic_block) (0x07 ∷ [])
     ++ unless (not row.prologue_end) (0x0a ∷ [])
     ++ unless (not row.epilogue_begin) (0x0b ∷ [])
-    ++ unless (before.line == row.line) (0x03 ∷ sleb_bytes (pos row.line -ℤ pos before.line))
+    ++ line_bytes before.line row.line
 
 -- the same, with a known distance and the row
 abbrev pub known_row_bytes : Registers → LineRow → ℕ → List ℕ
@@ -88,9 +104,11 @@ later_lines place [] end tail = (place + end.distance, None) ∷ tail
 later_lines place (later ∷ others) end tail =
     (place + later.advance.distance, Some later.row) ∷ later_lines (place + later.advance.distance) others end tail
 
+-- the rows of a sequence, before others
 abbrev pub sequence_lines : Sequence → List Line → List Line
 sequence_lines sequence tail = (0, Some sequence.first) ∷ later_lines 0 sequence.others sequence.end tail
 
+-- the rows of sequences, one behind the other
 abbrev pub program_lines : List Sequence → List Line
 program_lines [] = []
 program_lines (sequence ∷ sequences) = sequence_lines sequence (program_lines sequences)
@@ -105,9 +123,11 @@ AreLater place [] end = IsWritten end × (place + end.distance < 2 ^ 64)
 AreLater place (later ∷ others) end =
     IsWritten later.advance × (place + later.advance.distance < 2 ^ 64) × IsRow later.row × AreLater (place + later.advance.distance) others end
 
+-- a first address in 64 bits, and rows whose numbers and places are in their ranges
 abbrev pub IsSequence : Sequence → Type 0
 IsSequence sequence = (sequence.address < 2 ^ 64) × IsRow sequence.first × AreLater 0 sequence.others sequence.end
 
+-- so are all of them
 abbrev pub AreSequences : List Sequence → Type 0
 AreSequences [] = Unit {0}
 AreSequences (sequence ∷ sequences) = IsSequence sequence × AreSequences sequences

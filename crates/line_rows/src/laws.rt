@@ -1,6 +1,6 @@
 //! What the definitions come to.
 
-ghost use Rattle.std.specs.Prelude.{◌≡◌, ◌+◌, ◌-◌, ◌/◌, ◌%◌, ◌^◌, ◌<◌, ◌++◌, ◌∷◌, ℕ, ℤ, pos, neg_ℤ, ◌≤ℤ◌, ◌<ℤ◌, List, Some, length, slice_get};
+ghost use Rattle.std.specs.Prelude.{◌≡◌, ◌+◌, ◌/◌, ◌%◌, ◌^◌, ◌<◌, ◌++◌, ◌∷◌, ℕ, ℤ, pos, neg_ℤ, ◌≤ℤ◌, ◌<ℤ◌, List, Some, length, slice_get};
 ghost use Rattle.std.specs.Option.{option_and_then};
 ghost use Rattle.line_rows.specs.declared.rows.LineOp.TheVariants.{Copy, AdvancePc, AdvanceLine, SetFile, SetColumn, NegateStmt, SetBasicBlock, SetPrologueEnd, SetEpilogueBegin, SetIsa, EndSequence, SetAddress, SetDiscriminator};
 ghost use Rattle.leb128.specs.Reading.{uleb};
@@ -8,12 +8,9 @@ ghost use Rattle.leb128.specs.Digits.{uleb_bytes, sleb_bytes};
 ghost use Rattle.line_rows.specs.Ops.{next};
 ghost use Rattle.line_rows.specs.Rows.{lines_of};
 ghost use Rattle.line_rows.specs.Header.{line_at};
-ghost use Rattle.line_rows.specs.Writing.{IsRow, IsSequence, Sequence, AreSequences, discriminator_bytes, registers_of, row_bytes, later_bytes, Advance, program_bytes, program_lines, row_due, word_then};
-ghost use Rattle.line_rows.specs.declared.rows.LineRow.{LineRow};
-ghost use Rattle.line_rows.specs.declared.sections.Distance.{Distance};
-ghost use Rattle.line_rows.specs.Machine.{first_row};
-ghost use Rattle.line_rows.specs.Places.{PlacedRows, sequence_of, AreRising, AreWritten, placed_due};
-ghost use Rattle.line_rows.specs.Sections.{first_made, with_rows, filled, laid_rows, gap_count, digits_of};
+ghost use Rattle.line_rows.specs.Writing.{Sequence, AreSequences, discriminator_bytes, program_bytes, program_lines, row_due, word_then};
+ghost use Rattle.line_rows.specs.Places.{PlacedRows, sequence_of, AreRising, placed_due};
+ghost use Rattle.line_rows.specs.ReadingBack.{PlacedRowsAreSequences, FilledRowsAreSequences};
 ghost use Rattle.line_rows.specs.Tables.{File, ArePaths, AreFiles, entries_then, table_bytes};
 ghost use Rattle.line_rows.specs.WorkedRows.{TableRows, ProgramRows, WrittenRows};
 
@@ -26,8 +23,9 @@ pub fn operations_read_back()
     ensures advance { (digits : List ℕ) (number : ℕ)
         → ((rest : List ℕ) → uleb (digits ++ rest) ≡ Some (number, rest))
         → (rest : List ℕ) → next (0x02 ∷ (digits ++ rest)) ≡ Some (AdvancePc number, rest) }
-    ensures line { (number : ℤ) → neg_ℤ (pos (2 ^ 63)) ≤ℤ number → number <ℤ pos (2 ^ 63) → (rest : List ℕ)
-        → next (0x03 ∷ (sleb_bytes number ++ rest)) ≡ Some (AdvanceLine number, rest) }
+    ensures line { (number : ℤ) → neg_ℤ (pos (2 ^ 63)) ≤ℤ number → number <ℤ pos (2 ^ 63)
+        → (rest : List ℕ) → next (0x03 ∷ (sleb_bytes number ++ rest))
+        ≡ Some (AdvanceLine number, rest) }
     ensures file { (number : ℕ) → number < 2 ^ 64 → (rest : List ℕ)
         → next (0x04 ∷ (uleb_bytes number ++ rest)) ≡ Some (SetFile number, rest) }
     ensures column { (number : ℕ) → number < 2 ^ 64 → (rest : List ℕ)
@@ -41,7 +39,8 @@ pub fn operations_read_back()
     ensures discriminator { (number : ℕ) → number < 2 ^ 64 → (rest : List ℕ)
         → next (discriminator_bytes number ++ rest) ≡ Some (SetDiscriminator number, rest) }
     ensures address { (address : ℕ) → address < 2 ^ 64 → (rest : List ℕ)
-        → next (0x00 ∷ 0x09 ∷ 0x02 ∷ word_then (address % 2 ^ 32) (word_then (address / 2 ^ 32) rest))
+        → next (0x00 ∷ 0x09 ∷ 0x02
+        ∷ word_then (address % 2 ^ 32) (word_then (address / 2 ^ 32) rest))
         ≡ Some (SetAddress address, rest) }
     ensures end { (rest : List ℕ) → next (0x00 ∷ 0x01 ∷ 0x01 ∷ rest) ≡ Some (EndSequence, rest) }
 {
@@ -59,16 +58,15 @@ pub fn sequences_read_back()
 /// Rows in the order of their places, each distance in bytes of its own, are a sequence, and what is due at a place of it
 /// is the last row at or before that place, and none from the section's end on.
 pub fn places_are_distances()
-    ensures written { (address : ℕ) (rows : PlacedRows) → address < 2 ^ 64 → IsRow rows.first → rows.end - rows.start < 2 ^ 64
-        → AreRising rows.start rows.others rows.end → AreWritten rows.start rows.others rows.end rows.digits
-        → IsSequence (sequence_of address rows) }
+    ensures written { PlacedRowsAreSequences }
     ensures due { (address at : ℕ) (rows : PlacedRows) → AreRising rows.start rows.others rows.end
         → row_due at (sequence_of address rows) ≡ placed_due at rows }
 {}
 
 /// In a whole table the row at a place of a sequence is the last one at or before it, and none at the end and past it.
 pub fn tables_read_back()
-    ensures { (directories : List (List ℕ)) (files : List File) (sequences : List Sequence) (seq at : ℕ)
+    ensures { (directories : List (List ℕ)) (files : List File) (sequences : List Sequence)
+        → (seq at : ℕ)
         → ArePaths directories → AreFiles files → AreSequences sequences
         → length (entries_then directories files (program_bytes sequences)) + 8 < 0xfffffff0
         → length directories < 2 ^ 64 → length files < 2 ^ 64
@@ -82,11 +80,7 @@ pub fn tables_read_back()
 /// sequence, whatever bytes of the distances the gaps are filled with.
 #[tactic(auto, using(crate::proofs::GapLemmas::section_filled))]
 pub fn sections_are_sequences()
-    ensures { (first : LineRow) (rows : List (Distance × LineRow)) (advances : List Advance) (end : Advance) (tail : List ℕ)
-        → length advances ≡ gap_count rows
-        → filled 0 (with_rows rows (first_made first)).gaps (digits_of advances) (with_rows rows (first_made first)).bytes
-        ++ 0x02 ∷ (end.digits ++ 0x00 ∷ 0x01 ∷ 0x01 ∷ tail)
-        ≡ row_bytes (registers_of first_row) first ++ 0x01 ∷ later_bytes (registers_of first) (laid_rows rows advances) end tail }
+    ensures { FilledRowsAreSequences }
 {}
 
 /// The rows and the bytes that are worked out by hand.

@@ -66,7 +66,8 @@ fn take_step(walk: &mut Walk, at: u64, op: LineOp) -> Option<()>
 fn run_first<'a>(walk: &mut Walk, at: u64, bytes: &'a [u8]) -> Option<&'a [u8]>
     requires place { walk.old.machine.address + 2 ^ 64 ≤ 2 ^ 128 }
     requires some { 0 < length bytes.now }
-    ensures value { Continues at bytes.now walk.old (option_map (λ rest. rest.now) result) walk.new }
+    ensures value { Continues at bytes.now walk.old (option_map (λ rest. rest.now) result)
+        walk.new }
     ensures near { OnSome result (walk.new.machine.address ≤ walk.old.machine.address + 2 ^ 64) }
     ensures shorter { IfSome result (λ rest. length rest.now < length bytes.now) }
 {

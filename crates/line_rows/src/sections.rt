@@ -71,7 +71,8 @@ impl SectionRows {
 
     /// A row behind others. Where no memory is found nothing changes.
     pub fn row(&mut self, row: &LineRow, distance: Distance) -> Result<(), AllocError>
-        ensures { self.new ≡ (if is_ok result then spec.with_row distance row.now self.old else self.old) }
+        ensures { self.new ≡ (if is_ok result then spec.with_row distance row.now self.old
+            else self.old) }
     {
         let mut made = RowBytes::new();
         push_row(&mut made, &self.registers, row);

@@ -1,9 +1,10 @@
 //! From rows to bytes.
 
-ghost use Rattle.std.specs.Prelude.{◌≡◌, ◌+◌, ◌^◌, ◌<◌, ◌≤◌, ◌++◌, ◌∷◌, [], pos, ◌-ℤ◌, ◌==◌, not, if◌then◌else◌, is_ok};
+ghost use Rattle.std.specs.Prelude.{◌≡◌, ◌+◌, ◌^◌, ◌<◌, ◌≤◌, ◌++◌, ◌∷◌, [], not, is_ok};
 ghost use Rattle.arrayvec.specs.ArrayVec.{array_vec_len};
-ghost use Rattle.leb128.specs.Digits.{uleb_bytes, sleb_bytes};
+ghost use Rattle.leb128.specs.Digits.{uleb_bytes};
 ghost use Rattle.line_rows.specs.Writing as spec;
+ghost use Rattle.line_rows.specs.Writing.{Appends};
 
 use crate::rows::{LineRow, Registers, RowBytes};
 use leb128::{push_signed, push_unsigned};
@@ -54,7 +55,7 @@ fn push_discriminator(out: &mut RowBytes, number: u32)
 /// Appends a discriminator that is not 0.
 fn push_given_discriminator(out: &mut RowBytes, number: u32)
     requires { array_vec_len out.old ≤ 64 }
-    ensures value { out.new.items ≡ out.old.items ++ spec.unless (number == 0) (spec.discriminator_bytes number) }
+    ensures value { out.new.items ≡ out.old.items ++ spec.given_discriminator number }
     ensures few { array_vec_len out.new ≤ array_vec_len out.old + 13 }
 {
     if number != 0 {
@@ -65,7 +66,7 @@ fn push_given_discriminator(out: &mut RowBytes, number: u32)
 /// Appends a register's new value where it differs.
 fn push_changed(out: &mut RowBytes, code: u8, before: u32, now: u32)
     requires { array_vec_len out.old ≤ 69 }
-    ensures value { out.new.items ≡ out.old.items ++ spec.unless (before == now) (code ∷ uleb_bytes now) }
+    ensures value { out.new.items ≡ out.old.items ++ spec.changed_bytes code before now }
     ensures few { array_vec_len out.new ≤ array_vec_len out.old + 11 }
 {
     if before != now {
@@ -87,7 +88,7 @@ fn push_mark(out: &mut RowBytes, code: u8, is_set: bool)
 /// Appends a line's step where there is one.
 fn push_line(out: &mut RowBytes, before: u32, now: u32)
     requires { array_vec_len out.old ≤ 69 }
-    ensures value { out.new.items ≡ out.old.items ++ spec.unless (before == now) (0x03 ∷ sleb_bytes (pos now -ℤ pos before)) }
+    ensures value { out.new.items ≡ out.old.items ++ spec.line_bytes before now }
     ensures few { array_vec_len out.new ≤ array_vec_len out.old + 11 }
 {
     if before != now {
@@ -116,7 +117,7 @@ pub fn push_row(out: &mut RowBytes, before: &Registers, row: &LineRow)
 
 /// Appends a row's operations up to its advance.
 pub fn row_bytes(out: &mut Vec<u8>, before: &Registers, row: &LineRow) -> Result<(), AllocError>
-    ensures { out.new.items ≡ (if is_ok result then out.old.items ++ spec.row_bytes before.now row.now else out.old.items) }
+    ensures { Appends (is_ok result) (spec.row_bytes before.now row.now) out.old.items out.new.items }
 {
     let mut bytes = RowBytes::new();
     push_row(&mut bytes, before, row);
@@ -130,7 +131,8 @@ pub fn known_row_bytes(
     row: &LineRow,
     distance: u64,
 ) -> Result<(), AllocError>
-    ensures { out.new.items ≡ (if is_ok result then out.old.items ++ spec.known_row_bytes before.now row.now distance else out.old.items) }
+    ensures { Appends (is_ok result) (spec.known_row_bytes before.now row.now distance)
+        out.old.items out.new.items }
 {
     let mut bytes = RowBytes::new();
     push_row(&mut bytes, before, row);
