@@ -2,7 +2,9 @@
 
 ghost use Rattle.std.specs.Prelude.{◌≡◌, ℕ, ◌<◌};
 
-use asm_base::{Channel, Console, FileInputs, FileOutput, Inputs, Output, Steps, read_text};
+use asm_base::{
+    Channel, Console, Failed, FileInputs, FileOutput, Inputs, Output, Steps, read_text,
+};
 use memory_outside::{MemoryFile, MemoryInputs};
 use row_texts::{write_count, write_line, write_number, write_text};
 use std::alloc::Global;
@@ -12,24 +14,35 @@ use std::marker::Brand;
 use std::sync::ledger::{Blank, Ledger};
 use std::test::Fail;
 
+/// Writes a file, and answers how many bytes were taken.
+fn write_file(obj: &mut impl Output) -> Result<usize, Failed> {
+    obj.create("written.tmp")?;
+    let taken = obj.write(b"nop\n")?;
+    obj.finish()?;
+    Ok(taken)
+}
+
+/// Reads the file again, and asks for a name that no file has.
+fn read_file(alloc: Global, ins: &mut impl Inputs, out: &mut Vec<u8>) -> Result<(), Fail> {
+    let text = read_text(alloc, ins, "written.tmp")?;
+    out.extend_from_slice(text.as_bytes())?;
+    let told = match ins.start("no such file") {
+        Ok(()) => "started",
+        Err(_) => "not started",
+    };
+    write_line(told, out)?;
+    Ok(())
+}
+
 /// A file that is written is read back, and removed; a name that no file has is told so.
 pub fn write_real_file(
     rt: &(impl Files + Input + Alloc),
     alloc: Global,
     out: &mut Vec<u8>,
 ) -> Result<(), Fail> {
-    let mut obj = FileOutput::new(rt, 11)?;
-    obj.create("written.tmp")?;
-    let taken = obj.write(b"nop\n")?;
-    obj.finish()?;
-    let mut ins = FileInputs::new(rt);
-    let text = read_text(alloc, &mut ins, "written.tmp")?;
+    let taken = write_file(&mut FileOutput::new(rt, 11)?)?;
     write_count(taken as u64, " bytes taken, and read again:", out)?;
-    out.extend_from_slice(text.as_bytes())?;
-    match ins.start("no such file") {
-        Ok(()) => write_line("started", out)?,
-        Err(_) => write_line("not started", out)?,
-    }
+    read_file(alloc, &mut FileInputs::new(rt), out)?;
     fs::remove_file(rt, "written.tmp")?;
     Ok(())
 }

@@ -3,7 +3,7 @@
 use crate::runs::{Failing, Ran, run_row};
 use asm_base::{Channel, Status};
 use memory_outside::{MemoryFile, Stage};
-use row_texts::Row;
+use row_texts::{Row, write_line, write_text};
 use std::alloc::Global;
 use std::io::{self, Write};
 
@@ -154,7 +154,8 @@ fn write_failing(
     let word = outside.word();
     let calls = outside.calls_of(clean);
     if calls == 0 {
-        return writeln!(out, "{word}: no calls");
+        write_text(word, out)?;
+        return write_line(": no calls", out);
     }
     for call in 0..calls {
         let numbers = [call];
@@ -172,7 +173,9 @@ fn write_failing(
         }
     }
     let due = outside.due();
-    writeln!(out, "{word}: every failing call {due}")
+    write_text(word, out)?;
+    write_text(": every failing call ", out)?;
+    write_line(due, out)
 }
 
 /// Lets each call of the outside that the run without failures made fail in turn, and writes what the runs left.

@@ -4,7 +4,8 @@ use cfi_rows::{CfaRow, diff, row_at};
 use elf_file::{section_bytes, section_header, section_named};
 use frame_rows::write_row;
 use memory_outside::MemoryOutput;
-use std::io::{self, Write};
+use row_texts::{write_count, write_line, write_number, write_text};
+use std::io;
 
 /// The word at a place of an entry.
 fn word_at(entry: &[u8], at: usize) -> Option<u32> {
@@ -30,19 +31,22 @@ fn is_same(before: Option<CfaRow>, row: Option<CfaRow>) -> bool {
 /// Writes the row of an entry at the places where it changes, from its beginning to the place behind its last one.
 fn write_entry(common: &[u8], entry: &[u8], out: &mut Vec<u8>) -> io::Result<()> {
     let Some(range) = word_at(entry, 12) else {
-        return writeln!(out, "no such entry");
+        return write_line("no such entry", out);
     };
-    writeln!(out, "entry of {range} bytes")?;
+    write_text("entry of ", out)?;
+    write_count(u64::from(range), " bytes", out)?;
     let mut before = None;
     for at in 0..=u64::from(range) {
         let row = row_at(common, entry, at);
         if !is_same(before, row) {
-            write!(out, "  {at}: ")?;
+            write_text("  ", out)?;
+            write_number(at, out)?;
+            write_text(": ", out)?;
             match row {
                 Some(row) => write_row(&row, out)?,
-                None => write!(out, "none")?,
+                None => write_text("none", out)?,
             }
-            writeln!(out)?;
+            write_line("", out)?;
         }
         before = row;
     }
@@ -58,7 +62,7 @@ fn frame_table(file: &[u8]) -> Option<&[u8]> {
 /// Writes the rows of the entries behind the common one, which is the first.
 pub fn write_frames(made: &MemoryOutput, out: &mut Vec<u8>) -> io::Result<()> {
     let Some((common, mut rest)) = frame_table(made.bytes()).and_then(split_entry) else {
-        return writeln!(out, "no frame table");
+        return write_line("no frame table", out);
     };
     // An entry has bytes.
     for _ in 0..rest.len() {

@@ -6,7 +6,7 @@ use crate::objects::write_object;
 use crate::runs::{failing_calls, memory_files, run_row};
 use crate::shown_lines::write_line_table;
 use asm_base::Channel;
-use row_texts::{Row, RowFault, Shown, read_row};
+use row_texts::{Row, RowFault, Shown, read_row, write_line, write_text};
 use std::alloc::{AllocError, Global};
 use std::io::{self, Write};
 
@@ -18,15 +18,17 @@ fn write_said(said: &[u8], mark: &str, out: &mut Vec<u8>) -> io::Result<()> {
     for line in said.split_inclusive(|byte| *byte == b'\n') {
         match line.strip_suffix(b"\n") {
             Some(line) => {
-                write!(out, "{mark} ")?;
+                write_text(mark, out)?;
+                write_text(" ", out)?;
                 out.extend_from_slice(line)?;
             }
             None => {
-                write!(out, "{mark}~ ")?;
+                write_text(mark, out)?;
+                write_text("~ ", out)?;
                 out.extend_from_slice(line)?;
             }
         }
-        writeln!(out)?;
+        write_line("", out)?;
     }
     Ok(())
 }
@@ -65,10 +67,10 @@ fn report_row(alloc: Global, text: &[u8], out: &mut Vec<u8>) -> io::Result<()> {
     }
     let (name, lines) = split_line(text);
     out.extend_from_slice(name)?;
-    writeln!(out)?;
+    write_line("", out)?;
     match read_row(alloc, lines) {
         Ok(row) => write_row(alloc, &row, out),
-        Err(RowFault::NotUnderstood) => writeln!(out, "row not understood"),
+        Err(RowFault::NotUnderstood) => write_line("row not understood", out),
         Err(RowFault::NoMemory) => Err(io::Error::from(AllocError)),
     }
 }

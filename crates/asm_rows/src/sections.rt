@@ -1,7 +1,10 @@
 //! The sections of an object: their headers and their bytes.
 
 use elf_file::{SectionHeader, section_bytes, section_header, section_name};
-use row_texts::{section_flags, section_type, shown_name, write_bytes};
+use row_texts::{
+    section_flags, section_type, shown_name, write_bytes, write_count, write_line, write_number,
+    write_text,
+};
 use std::alloc::Global;
 use std::io::{self, Write};
 
@@ -31,6 +34,18 @@ fn is_own(name: &[u8], header: &SectionHeader) -> bool {
     }
 }
 
+/// Writes a word, and the number behind it.
+fn write_named(word: &str, number: u64, out: &mut Vec<u8>) -> io::Result<()> {
+    write_text(word, out)?;
+    write_number(number, out)
+}
+
+/// Writes that a section is not readable.
+fn write_unreadable(index: usize, out: &mut Vec<u8>) -> io::Result<()> {
+    write_text("section ", out)?;
+    write_count(index as u64, " is not readable", out)
+}
+
 /// Writes the header's line: that of a full dump, or a short one.
 fn write_header(
     alloc: Global,
@@ -51,14 +66,20 @@ fn write_header(
         let offset = header.offset;
         let link = header.link;
         let info = header.info;
-        write!(out, " offset {offset} size {size} link {link} info {info}")?;
-        return writeln!(out, " align {alignment} entsize {entry_size}");
+        write_named(" offset ", offset, out)?;
+        write_named(" size ", size, out)?;
+        write_named(" link ", u64::from(link), out)?;
+        write_named(" info ", u64::from(info), out)?;
+        write_named(" align ", alignment, out)?;
+        write_text(" entsize ", out)?;
+        return write_count(entry_size, "", out);
     }
-    write!(out, " align {alignment} size {size}")?;
+    write_named(" align ", alignment, out)?;
+    write_named(" size ", size, out)?;
     if entry_size != 0 {
-        write!(out, " entsize {entry_size}")?;
+        write_named(" entsize ", entry_size, out)?;
     }
-    writeln!(out)
+    write_line("", out)
 }
 
 /// Writes the section of this number, where it is shown.
@@ -70,7 +91,7 @@ fn write_section(
     out: &mut Vec<u8>,
 ) -> io::Result<()> {
     let (Some(header), Some(name)) = (section_header(file, index), section_name(file, index)) else {
-        return writeln!(out, "section {index} is not readable");
+        return write_unreadable(index, out);
     };
     if !full && (index == 0 || !is_own(name, &header)) {
         return Ok(());
@@ -81,7 +102,7 @@ fn write_section(
     }
     match section_bytes(file, &header) {
         Some(bytes) => write_bytes(bytes, out),
-        None => writeln!(out, "section {index} is not readable"),
+        None => write_unreadable(index, out),
     }
 }
 

@@ -3,6 +3,7 @@
 use elf_file::{section_bytes, section_header, section_named};
 use line_rows::{LineRow, line_at};
 use memory_outside::MemoryOutput;
+use row_texts::{write_line, write_number, write_text};
 use std::io::{self, Write};
 
 /// How many sequences are looked for, and at how many places of each.
@@ -19,7 +20,8 @@ fn line_table(file: &[u8]) -> Option<&[u8]> {
 /// Writes a word where it holds.
 fn write_mark(holds: bool, word: &str, out: &mut Vec<u8>) -> io::Result<()> {
     if holds {
-        write!(out, " {word}")?;
+        write_text(" ", out)?;
+        write_text(word, out)?;
     }
     Ok(())
 }
@@ -49,12 +51,16 @@ fn write_sequence(table: &[u8], number: u32, out: &mut Vec<u8>) -> io::Result<()
     for at in 0..PLACES {
         let row = line_at(table, number, at);
         if row != before {
-            write!(out, "  {number} +{at}: ")?;
+            write_text("  ", out)?;
+            write_number(u64::from(number), out)?;
+            write_text(" +", out)?;
+            write_number(at, out)?;
+            write_text(": ", out)?;
             match row {
                 Some(row) => write_row(&row, out)?,
-                None => write!(out, "none")?,
+                None => write_text("none", out)?,
             }
-            writeln!(out)?;
+            write_line("", out)?;
         }
         before = row;
     }
@@ -64,7 +70,7 @@ fn write_sequence(table: &[u8], number: u32, out: &mut Vec<u8>) -> io::Result<()
 /// Writes the rows of the first sequences.
 pub fn write_line_table(made: &MemoryOutput, out: &mut Vec<u8>) -> io::Result<()> {
     let Some(table) = line_table(made.bytes()) else {
-        return writeln!(out, "no line table");
+        return write_line("no line table", out);
     };
     for number in 0..SEQUENCES {
         write_sequence(table, number, out)?;

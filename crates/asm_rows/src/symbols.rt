@@ -4,7 +4,9 @@ use elf_file::{
     SectionHeader, SymbolRecord, section_bytes, section_header, section_name, section_named,
     symbol_at, text_at,
 };
-use row_texts::{shown_name, symbol_binding, symbol_type, symbol_visibility};
+use row_texts::{
+    shown_name, symbol_binding, symbol_type, symbol_visibility, write_count, write_text,
+};
 use std::alloc::{AllocError, Global};
 use std::io::{self, Write};
 
@@ -71,7 +73,8 @@ impl<'a> SymbolTable<'a> {
     /// Writes the symbol of this number.
     fn write_symbol(&self, alloc: Global, index: usize, out: &mut Vec<u8>) -> io::Result<()> {
         let Some(symbol) = symbol_at(self.entries, index) else {
-            return writeln!(out, "symbol {index} is not readable");
+            write_text("symbol ", out)?;
+            return write_count(index as u64, " is not readable", out);
         };
         let name = self.shown_name_at(alloc, index)?;
         let kind = symbol_type(symbol.info);
@@ -96,7 +99,7 @@ impl<'a> SymbolTable<'a> {
 
     /// Writes how many symbols are local, the first among them.
     pub fn write_local_count(&self, out: &mut Vec<u8>) -> io::Result<()> {
-        let locals = self.locals;
-        writeln!(out, "local {locals}")
+        write_text("local ", out)?;
+        write_count(u64::from(self.locals), "", out)
     }
 }

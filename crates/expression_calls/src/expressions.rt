@@ -9,9 +9,10 @@ use asm_expr::{
     known_value, linear_form, names_of, plus_times, settled, settled_value, symbol_form, value_of,
 };
 use expr_texts::{parse, shown_text};
+use row_texts::{write_count, write_displayed, write_line, write_number, write_text};
 use std::alloc::Global;
 use std::fmt::Display;
-use std::io::{self, Write};
+use std::io;
 
 /// The symbol of an instance of a numeric label.
 fn instance_of(number: u64, instance: u32) -> SymId
@@ -85,8 +86,8 @@ fn write_answer<T: Display + Drop>(
     out: &mut Vec<u8>,
 ) -> io::Result<()> {
     match answer {
-        Ok(value) => writeln!(out, "{value}"),
-        Err(fault) => writeln!(out, "{fault}"),
+        Ok(value) => write_displayed(&value, out),
+        Err(fault) => write_displayed(&fault, out),
     }
 }
 
@@ -137,15 +138,15 @@ pub fn write_names(alloc: Global, text: &str, out: &mut Vec<u8>) -> io::Result<(
                 match name {
                     Written::Plain(text) => {
                         out.extend_from_slice(text.as_bytes())?;
-                        writeln!(out)?;
+                        write_line("", out)?;
                     }
-                    Written::Back(number) => writeln!(out, "{number} before")?,
-                    Written::Next(number) => writeln!(out, "{number} behind")?,
+                    Written::Back(number) => write_count(*number, " before", out)?,
+                    Written::Next(number) => write_count(*number, " behind", out)?,
                 }
             }
             Ok(())
         }
-        Err(fault) => writeln!(out, "{fault}"),
+        Err(fault) => write_displayed(&fault, out),
     }
 }
 
@@ -160,9 +161,9 @@ pub fn write_shown(alloc: Global, text: &str, out: &mut Vec<u8>) -> io::Result<(
     match shown_again(alloc, text) {
         Ok(shown) => {
             out.extend_from_slice(&shown)?;
-            writeln!(out)
+            write_line("", out)
         }
-        Err(fault) => writeln!(out, "{fault}"),
+        Err(fault) => write_displayed(&fault, out),
     }
 }
 
@@ -176,15 +177,14 @@ fn form(alloc: Global, text: &str) -> Result<Linear, ExprFault> {
 pub fn write_form(alloc: Global, text: &str, out: &mut Vec<u8>) -> io::Result<()> {
     match form(alloc, text) {
         Ok(form) => {
-            let constant = form.constant();
-            write!(out, "{constant}")?;
+            write_number(form.constant(), out)?;
             for term in form.terms() {
-                let coefficient = term.coefficient;
-                write!(out, " {coefficient}")?;
+                write_text(" ", out)?;
+                write_number(term.coefficient, out)?;
             }
-            writeln!(out)
+            write_line("", out)
         }
-        Err(fault) => writeln!(out, "{fault}"),
+        Err(fault) => write_displayed(&fault, out),
     }
 }
 
@@ -213,11 +213,12 @@ pub fn write_settled(alloc: Global, first: u64, second: u64, out: &mut Vec<u8>) 
     match two_labels(alloc, first, second) {
         Ok(form) => {
             match settled_value(&Numbered, &form) {
-                Some(value) => write!(out, "{value}, ")?,
-                None => write!(out, "none, ")?,
+                Some(value) => write_number(value, out)?,
+                None => write_text("none", out)?,
             }
+            write_text(", ", out)?;
             write_answer(value_settled(alloc, form), out)
         }
-        Err(fault) => writeln!(out, "{fault}"),
+        Err(fault) => write_displayed(&fault, out),
     }
 }

@@ -3,8 +3,9 @@
 use asm_base::{
     Fault, Files, Note, Pos, StatementFault, Text, TokenKind, Tokens, heading, message, warning,
 };
+use row_texts::{write_line, write_text};
 use std::alloc::{AllocError, Global};
-use std::io::{self, Write};
+use std::io;
 
 /// The word for a class of tokens.
 fn word(kind: TokenKind) -> &'static str {
@@ -22,10 +23,10 @@ fn word(kind: TokenKind) -> &'static str {
 pub fn write_tokens(alloc: Global, text: &str, out: &mut Vec<u8>) -> io::Result<()> {
     let tokens = Tokens::read(alloc, text.as_bytes())?;
     for token in tokens.as_slice() {
-        let kind = word(token.kind);
-        write!(out, "{kind} ")?;
+        write_text(word(token.kind), out)?;
+        write_text(" ", out)?;
         out.extend_from_slice(token.bytes)?;
-        writeln!(out)?;
+        write_line("", out)?;
     }
     Ok(())
 }

@@ -9,7 +9,7 @@ use asm_base::Steps;
 use asm_levels::{Distance, PackedRow, RowPlan, RowSize};
 use row_texts::{write_count, write_line, write_number, write_spaced_code, write_text};
 use std::alloc::{AllocError, Global};
-use std::io::{self, Write};
+use std::io;
 use std::marker::Brand;
 use std::sync::ledger::{Blank, Ledger};
 
@@ -165,7 +165,10 @@ fn write_levels(plan: &RowPlan, out: &mut Vec<u8>) -> io::Result<()> {
     for level in 0..10u8 {
         let count = count_at(plan, level);
         if count != 0 {
-            write!(out, ", {count} of level {level}")?;
+            write_text(", ", out)?;
+            write_number(count as u64, out)?;
+            write_text(" of level ", out)?;
+            write_number(u64::from(level), out)?;
         }
     }
     write_line("", out)
@@ -202,6 +205,17 @@ fn write_rows(alloc: Global, plan: &RowPlan, out: &mut Vec<u8>) -> io::Result<()
     Ok(())
 }
 
+/// Writes how many bytes there are, how many rounds were made, and how many steps at most.
+fn write_counts(bytes: u64, rounds: u64, steps: u64, out: &mut Vec<u8>) -> io::Result<()> {
+    write_text("bytes ", out)?;
+    write_number(bytes, out)?;
+    write_text(", rounds ", out)?;
+    write_number(rounds, out)?;
+    write_text(", at most ", out)?;
+    write_number(steps, out)?;
+    write_text(" steps", out)
+}
+
 /// Settles the rows, and writes their bytes, rounds and levels, and the first of them.
 pub fn write_settled(alloc: Global, rows: Vec<PackedRow>, out: &mut Vec<u8>) -> io::Result<()> {
     if !all_fit(&rows) {
@@ -214,7 +228,7 @@ pub fn write_settled(alloc: Global, rows: Vec<PackedRow>, out: &mut Vec<u8>) -> 
     let rounds = rounds_of::<Brand>(&mut plan, Blank::new(1));
     let bytes = total(&plan);
     let steps = rounds.saturating_mul(several(plan.rows()) as u64);
-    write!(out, "bytes {bytes}, rounds {rounds}, at most {steps} steps")?;
+    write_counts(bytes, rounds, steps, out)?;
     write_levels(&plan, out)?;
     write_rows(alloc, &plan, out)
 }

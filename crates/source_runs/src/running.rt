@@ -3,7 +3,8 @@
 ghost use Rattle.std.specs.Prelude.{◌≡◌, ◌≤◌, ◌⊎◌, Some, IfOk, OnOk, OnErr};
 ghost use Rattle.std.specs.Option.{option_map};
 ghost use Rattle.asm_base.specs.Counts.{HasCause, HasRisen};
-ghost use Rattle.asm_front.specs.Sources.{main_of};
+ghost use Rattle.asm_front.specs.Sources.{file, given, main_of};
+ghost use Rattle.load_text.specs.Load.{load_text};
 ghost use Rattle.run_words.specs.Invoked.{invoked};
 ghost use Rattle.source_ends.specs.Synthesis.{Synthesis};
 ghost use Rattle.source_runs.specs.Outcome.{CommandHolds, invocation_outcome, main_of_invocation};
@@ -19,13 +20,29 @@ use load_text::self_load;
 use run_words::Invocation;
 use std::alloc::Global;
 
+/// The main source that is made here, of so many functions.
+fn given_main(alloc: Global, functions: u32) -> Result<Main, NoMemory>
+    ensures { IfOk result (λ main. main_of main ≡ given (load_text functions)) }
+{
+    let text = self_load(alloc, functions)?;
+    Ok(Main::Given(text))
+}
+
+/// The main source of the file of this name.
+fn file_main(alloc: Global, name: &str) -> Result<Main, NoMemory>
+    ensures { IfOk result (λ main. main_of main ≡ file name.now) }
+{
+    let name = String::from_str(alloc, name)?;
+    Ok(Main::File(name))
+}
+
 /// The main source that is asked for: one that is made here, or that of a file.
 fn main_for(alloc: Global, invocation: Invocation) -> Result<Main, NoMemory>
     ensures { IfOk result (λ main. main_of main ≡ main_of_invocation (invoked invocation.entry)) }
 {
     match invocation.self_load {
-        Some(functions) => Ok(Main::Given(self_load(alloc, functions)?)),
-        None => Ok(Main::File(String::from_str(alloc, invocation.file)?)),
+        Some(functions) => given_main(alloc, functions),
+        None => file_main(alloc, invocation.file),
     }
 }
 
@@ -96,7 +113,7 @@ pub fn deliver<O: Output, C: Console>(
 }
 
 /// Assembles the source that is asked for.
-#[tactic(auto, using(crate::proofs::StandingOutcomes::object_made, crate::proofs::StandingOutcomes::source_refused, crate::proofs::StandingOutcomes::files_read, crate::proofs::StandingOutcomes::found, crate::proofs::StandingOutcomes::all_missed, crate::proofs::StandingOutcomes::all_started, crate::proofs::StandingOutcomes::read_lost, crate::proofs::StandingOutcomes::memory_lost, crate::proofs::StartedFiles::none_started, crate::proofs::StartedFiles::starts_none))]
+#[tactic(auto, using(crate::proofs::StandingOutcomes::memory_lost, crate::proofs::StartedFiles::none_started, crate::proofs::StartedFiles::starts_none))]
 pub fn run_source<I: Inputs, O: Output, C: Console>(
     alloc: Global,
     invocation: Invocation,
