@@ -1,2 +1,3 @@
 -- The proofs of this crate.
 mod BareLemmas
+mod GroupFlags

@@ -6,22 +6,23 @@ use Rattle.asm_base.specs.declared.positions.Pos.{Pos}
 use Rattle.asm_base.specs.Tokens.{SpelledToken}
 use Rattle.asm_expr.specs.Knowledge.{Knowledge}
 use Rattle.asm_expr.specs.Trees.{Tree}
+use Rattle.asm_expr.specs.declared.naming.Name.TheVariants.{Plain}
 use Rattle.asm_base.specs.declared.causes.FragCause.{FragCause}
 use Rattle.asm_frags.specs.SectionOf.{section_number}
-use Rattle.asm_frags.specs.Sections.{section_flags, entered}
+use Rattle.asm_frags.specs.Sections.{section_flags, entered, entered_in}
 use Rattle.asm_uses.specs.declared.tables.Naming.{Naming}
 use Rattle.asm_values.specs.declared.stacks.Entered.{Entered}
 use Rattle.asm_declarations.specs.declared.section_changes.Header.{Header}
 use Rattle.asm_base.specs.Refusals.{◌>>=◌}
 use Rattle.asm_operands.specs.Results.{if_some}
 use Rattle.asm_operands.specs.LayerFaults.{section_fault}
-use Rattle.asm_uses.specs.Tables.{naming_of, allowed}
+use Rattle.asm_uses.specs.Tables.{Table, naming_of, allowed, with_name}
 use Rattle.asm_frags.specs.Writing.{LooseSection}
 use Rattle.asm_values.specs.State.{Placed, with_table, with_names, known_here}
 use Rattle.asm_operands.specs.Operands.{operands_of}
 use Rattle.asm_operands.specs.Expressions.{form_in, constant_in}
 use Rattle.asm_expr.specs.Arithmetic.{is_negative}
-use Rattle.asm_words.specs.SectionWords.{SectionWords, says_merge, section_words, said_flags, said_kind}
+use Rattle.asm_words.specs.SectionWords.{SectionWords, says_merge, section_words, said_flags, said_kind, said_group}
 use Rattle.asm_words.specs.SectionDefaults.{default_header}
 
 -- statements put into the section of this number from now on
@@ -88,6 +89,27 @@ entered_as sections name header =
     if nat_lt (2 ^ 16) (length name) then Err BadSection
     else entered_short sections name header
 
+-- the signature has more bytes than a statement
+abbrev pub has_long_signature : Option (List ℕ × Bool) → Bool
+has_long_signature None = false
+has_long_signature (Some group) = nat_lt (2 ^ 16) (length group.0)
+
+-- the same in the group of this signature, of which a linker may keep one alone, or in none; a signature has at most as many bytes as a statement
+unfoldable pub entered_for : Option (List ℕ × Bool) → List LooseSection → List ℕ → Header → Result (List LooseSection × ℕ) PlaceCause
+entered_for group sections name header =
+    if nat_lt (2 ^ 16) (length name) then Err BadSection
+    else (if has_long_signature group then Err BadSection
+    else numbered (entered_in sections name (section_flags header.flags) header.kind header.entry_size group))
+
+-- the table where the signature of a group, if there is one, is the name of a symbol
+abbrev pub signed : Pos → Option (List ℕ) → Table → Table
+signed pos None table = table
+signed pos (Some signature) table = with_name pos (Plain signature) table
+
+-- the signature of a group is the name of a symbol from now on
+abbrev pub with_signature : Pos → Option (List ℕ) → Placed → Placed
+with_signature pos signature placed = with_table placed (signed pos signature placed.table)
+
 -- an expression that may be missing, as a list
 abbrev pub option_trees : Option Tree → List Tree
 option_trees None = []
@@ -97,15 +119,15 @@ option_trees (Some tree) = tree ∷ []
 abbrev pub enter_named : SectionWords → Naming → Placed → Result Placed PlaceCause
 enter_named words naming named =
     entry_size_in (known_here named) words.entry_size >>= λ size.
-    header_by named.sections words size >>= λ header. entered_as named.sections words.name header >>= λ pair.
+    header_by named.sections words size >>= λ header. said_group words >>= λ group. entered_for group named.sections words.name header >>= λ pair.
     allowed naming named.table >>= λ table.
     Ok (with_table (with_current pair.1 (record named { sections = pair.0 })) table)
 
--- the names of the size of entries become symbols, and then the same
+-- the names of the size of entries and that of the group become symbols, and then the same
 unfoldable pub enter_words : Pos → SectionWords → Placed → Result Placed PlaceCause
 enter_words pos words placed =
     let trees = option_trees words.entry_size in
-    enter_named words (naming_of trees placed.table) (with_names pos trees placed)
+    enter_named words (naming_of trees placed.table) (with_signature pos words.signature (with_names pos trees placed))
 
 -- `.section`
 unfoldable pub place_section : Pos → List SpelledToken → Placed → Result Placed PlaceCause

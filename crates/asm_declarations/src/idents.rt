@@ -64,7 +64,7 @@ fn file_name(name: Vec<u8>) -> Result<Vec<u8>, PlaceFault>
 }
 
 /// `.ident`: the text goes into `.comment`.
-#[tactic(auto, unfolding(crate::specs::Idents::place_ident))]
+#[tactic(auto, unfolding(crate::specs::Idents::place_ident, crate::specs::SectionChanges::entered_for, crate::specs::SectionChanges::entered_as))]
 pub fn place_ident(assembler: &mut Assembler, pos: Pos, tokens: &[Token]) -> Result<(), PlaceFault>
     ensures placed { PlacesBy (place_ident pos (map spelled tokens.now))
         assembler.old assembler.new result }
@@ -81,6 +81,7 @@ pub fn place_ident(assembler: &mut Assembler, pos: Pos, tokens: &[Token]) -> Res
         &mut assembler.sections,
         b".comment",
         header,
+        None,
     )?;
     let items = items_in(&assembler.sections, number);
     comment_bytes(&mut assembler.scratch, items, &text)?;

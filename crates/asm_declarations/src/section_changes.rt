@@ -1,36 +1,42 @@
 //! Which section statements put into (GNU as manual, ".section", ".pushsection", ".popsection", ".previous").
 
-ghost use Rattle.std.specs.Prelude.{◌≡◌, map, option_map, Ok};
+ghost use Rattle.std.specs.Prelude.{◌≡◌, map, option_map, is_some, false, Ok, IfOk, IfSome, OnOk};
 ghost use Rattle.asm_expr.specs.Trees.{tree_of};
 ghost use Rattle.asm_base.specs.Refusals.{GivesBy, Gives};
+ghost use Rattle.asm_frags.specs.Groups.{says_group};
+ghost use Rattle.asm_frags.specs.Sections.{section_flags};
 ghost use Rattle.asm_uses.specs.KnownIn.{known_in};
 ghost use Rattle.asm_operands.specs.Results.{if_some};
-ghost use Rattle.asm_words.specs.SectionWords as words;
+ghost use Rattle.asm_words.specs.SectionWords as words_spec;
 ghost use Rattle.asm_declarations.specs.SectionChanges as spec;
 ghost use Rattle.asm_words.specs.SaidWords.{words_in};
 ghost use Rattle.asm_base.specs.Tokens.{spelled};
-ghost use Rattle.asm_declarations.specs.SectionChanges.{bare, with_current, enter_words, place_section, place_pushed, popped};
+ghost use Rattle.asm_declarations.specs.SectionChanges.{bare, with_current, enter_named, enter_words, place_section, place_pushed, popped};
 ghost use Rattle.asm_values.specs.PlacedBy.{placed_by, PlacesBy};
 
-use asm_base::{Pos, Text, Token};
-use asm_expr::Expr;
+use asm_base::{NoMemory, Pos, Text, Token};
+use asm_expr::{Expr, Spelling};
 use asm_frags::{FragFault, Loose, Section, SectionFlags, Sections};
 use asm_operands::{Operands, PlaceCause, PlaceFault, constant_if};
-use asm_uses::{View, form_if};
+use asm_uses::{Naming, View, form_if};
 use asm_values::{Assembler, Entered};
 use asm_words::{
-    SectionWords, default_header, is_negative, said_flags, said_kind, says_merge, section_words,
+    SectionWords, default_header, is_negative, said_flags, said_group, said_kind, says_merge,
+    section_words,
 };
 use bitflags::Flags;
-use std::alloc::Global;
+use std::alloc::{AllocError, Global};
 
 /// The most bytes of the name of a section.
 const MOST_NAME: usize = 0x1_0000;
 
-/// The section of this name, where there is one.
+/// The section of this name in no group, where there is one.
+#[tactic(auto, using(crate::proofs::GroupFlags::found_bare))]
 fn section_named<'a>(sections: &'a Sections, name: &[u8]) -> Option<&'a Section<Loose>>
-    ensures { option_map (λ section. section.now) result
+    ensures value { option_map (λ section. section.now) result
         ≡ spec.section_named sections.now name.now }
+    ensures bare { IfSome (spec.section_named sections.now name.now)
+        (λ section. says_group section.flags ≡ false) }
 {
     match sections.find(name) {
         Some(number) => Some(sections.section(number)),
@@ -106,7 +112,7 @@ fn entry_size_in(alloc: Global, view: View, expr: &Option<Expr>) -> Result<Optio
 /// The flags that are said, if any are.
 fn flags_if(letters: &Option<Vec<u8>>) -> Result<Option<u64>, PlaceFault>
     ensures { GivesBy (λ flags. flags) result
-        (if_some words.said_flags (option_map (λ letters. letters.items) letters.now)) }
+        (if_some words_spec.said_flags (option_map (λ letters. letters.items) letters.now)) }
 {
     match letters {
         Some(letters) => Ok(Some(said_flags(letters)?)),
@@ -117,7 +123,7 @@ fn flags_if(letters: &Option<Vec<u8>>) -> Result<Option<u64>, PlaceFault>
 /// The type that is said, if one is.
 fn kind_if(name: &Option<Vec<u8>>) -> Result<Option<u32>, PlaceFault>
     ensures { GivesBy (λ kind. kind) result
-        (if_some words.said_kind (option_map (λ name. name.items) name.now)) }
+        (if_some words_spec.said_kind (option_map (λ name. name.items) name.now)) }
 {
     match name {
         Some(name) => Ok(Some(said_kind(name)?)),
@@ -134,14 +140,16 @@ pub struct Header {
 }
 
 /// What the header of the section of these words says.
-#[tactic(auto, unfolding(crate::specs::SectionChanges::header_by))]
+#[tactic(auto, unfolding(crate::specs::SectionChanges::header_by), using(crate::proofs::GroupFlags::header_flagged))]
 fn header_of(
     sections: &Sections,
     words: &SectionWords,
     size: Option<u64>,
 ) -> Result<Header, PlaceFault>
-    ensures { GivesBy (λ header. header) result
+    ensures value { GivesBy (λ header. header) result
         (spec.header_by sections.now (words_in words.now) size) }
+    ensures flagged { IfOk result (λ header. says_group (section_flags header.flags)
+        ≡ words_spec.says_grouped (words_in words.now).flags) }
 {
     let there = section_named(sections, &words.name);
     let flags = flags_if(&words.flags)?;
@@ -154,25 +162,74 @@ fn header_of(
     })
 }
 
-/// The number of the section of this name and header, which is made if it is not there.
-#[tactic(auto, unfolding(crate::specs::SectionChanges::entered_as))]
+/// Whether the signature has more bytes than a statement.
+fn has_long_signature(group: Option<(&Spelling, bool)>) -> bool
+    ensures { result ≡ spec.has_long_signature
+        (option_map (λ group. (group.0.now, group.1)) group.entry) }
+{
+    match group {
+        Some((signature, _)) => signature.as_bytes().len() > MOST_NAME,
+        None => false,
+    }
+}
+
+/// A copy of the group that is said.
+fn copied_group(
+    alloc: Global,
+    group: Option<(&Spelling, bool)>,
+) -> Result<Option<(Text, bool)>, AllocError>
+    ensures { IfOk result (λ copied. copied
+        ≡ option_map (λ group. (group.0.now, group.1)) group.entry) }
+{
+    match group {
+        Some((signature, comdat)) => {
+            let text = Text::new(Vec::from_slice(alloc, signature.as_bytes())?);
+            Ok(Some((text, comdat)))
+        }
+        None => Ok(None),
+    }
+}
+
+/// The number of the section of this name and header, in the group or in none, which is made if it is
+/// not there.
+#[tactic(auto, unfolding(crate::specs::SectionChanges::entered_for))]
 pub(crate) fn enter(
     alloc: Global,
     sections: &mut Sections,
     name: &[u8],
     header: Header,
+    group: Option<(&Spelling, bool)>,
 ) -> Result<u32, PlaceFault>
+    requires { says_group (section_flags header.flags) ≡ is_some group }
     ensures { GivesBy (λ number. (sections.new, number)) result
-        (spec.entered_as sections.old name.now header) }
+        (spec.entered_for (option_map (λ group. (group.0.now, group.1)) group.entry) sections.old
+        name.now header) }
 {
-    if name.len() > MOST_NAME {
+    if name.len() > MOST_NAME || has_long_signature(group) {
         return Err(PlaceFault::Fault(PlaceCause::BadSection));
     }
     let text = Text::new(Vec::from_slice(alloc, name)?);
     let flags = SectionFlags::from_bits_retain(header.flags);
+    let group = copied_group(alloc, group)?;
     sections
-        .enter(text, flags, header.kind, header.entry_size)
+        .enter(text, flags, header.kind, header.entry_size, group)
         .map_err(FragFault::raise)
+}
+
+/// The signature of a group is the name of a symbol from now on.
+fn name_signature(
+    assembler: &mut Assembler,
+    pos: Pos,
+    signature: &Option<Spelling>,
+) -> Result<(), NoMemory>
+    ensures placed { OnOk result (placed_by assembler.new
+        ≡ spec.with_signature pos signature.now (placed_by assembler.old)) }
+    ensures kept { assembler.new.notes ≡ assembler.old.notes }
+{
+    if let Some(signature) = signature {
+        assembler.table.intern_text(pos, signature.as_bytes())?;
+    }
+    Ok(())
 }
 
 /// The expressions of an operand that may be missing.
@@ -191,25 +248,43 @@ pub fn set_current(assembler: &mut Assembler, number: u32)
     assembler.current = number;
 }
 
-/// Statements put into the section of these words.
-#[tactic(auto, unfolding(crate::specs::SectionChanges::enter_words))]
-fn enter_words(assembler: &mut Assembler, pos: Pos, words: SectionWords) -> Result<(), PlaceFault>
-    ensures placed { PlacesBy (enter_words pos (words_in words)) assembler.old assembler.new result }
+/// Statements put into the section of these words, whose names have symbols by now.
+#[tactic(auto, using(crate::proofs::GroupFlags::group_flagged))]
+fn enter_named(
+    assembler: &mut Assembler,
+    naming: Naming,
+    words: &SectionWords,
+) -> Result<(), PlaceFault>
+    ensures placed { PlacesBy (enter_named (words_in words.now) naming)
+        assembler.old assembler.new result }
     ensures kept { assembler.new.notes ≡ assembler.old.notes }
 {
-    let exprs = option_exprs(&words.entry_size);
-    let naming = assembler.table.intern_trees(pos, exprs)?;
     let size = entry_size_in(assembler.alloc, assembler.view(), &words.entry_size)?;
-    let header = header_of(&assembler.sections, &words, size)?;
+    let header = header_of(&assembler.sections, words, size)?;
+    let group = said_group(words)?;
     let number = enter(
         assembler.alloc,
         &mut assembler.sections,
         &words.name,
         header,
+        group,
     )?;
     assembler.table.allow(naming)?;
     set_current(assembler, number);
     Ok(())
+}
+
+/// Statements put into the section of these words.
+#[tactic(auto, unfolding(crate::specs::SectionChanges::enter_words))]
+fn enter_words(assembler: &mut Assembler, pos: Pos, words: &SectionWords) -> Result<(), PlaceFault>
+    ensures placed { PlacesBy (enter_words pos (words_in words.now))
+        assembler.old assembler.new result }
+    ensures kept { assembler.new.notes ≡ assembler.old.notes }
+{
+    let exprs = option_exprs(&words.entry_size);
+    let naming = assembler.table.intern_trees(pos, exprs)?;
+    name_signature(assembler, pos, &words.signature)?;
+    enter_named(assembler, naming, words)
 }
 
 /// `.section`
@@ -224,7 +299,7 @@ pub fn place_section(
     ensures kept { assembler.new.notes ≡ assembler.old.notes }
 {
     let words = section_words(assembler.alloc, &mut Operands::new(tokens))?;
-    enter_words(assembler, pos, words)
+    enter_words(assembler, pos, &words)
 }
 
 /// `.pushsection`: `.popsection` comes back to where this stands.

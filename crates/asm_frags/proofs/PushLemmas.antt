@@ -17,20 +17,21 @@ use Rattle.item_contents.specs.declared.contents.Content.TheVariants.{Run}
 use Rattle.item_contents.specs.Zeros.{is_zero}
 use Rattle.item_contents.specs.Contents.{is_known_zeros}
 use Rattle.asm_frags.specs.SectionOf.{SectionOf}
+use Rattle.asm_frags.specs.Sound.{heading_of}
 use Rattle.asm_frags.specs.Writing.{LooseItem, LooseSection, ends_in_run, new_item, with_item, with_run, with_bytes, with_field, with_growing, takes_zeros_alone, bytes_put, field_put, growing_put, item_put}
 use Rattle.asm_frags.specs.Answers.{Changes}
 use Rattle.asm_frags.specs.Sections.{with_section_or_fault, put_into}
 
 module _ {Item : Type 0} where
-  made_name : (b : Bool) (old made new : SectionOf Item) → made.name ≡ old.name → cond b (Err BadSection) (Ok made) ≡ Ok new → new.name ≡ old.name
-  made_name true old made new same is = cc
-  made_name false old made new same is = let alike : made ≡ new = cc in ap (λ (s : SectionOf Item). s.name) (sym alike) ∙ same
+  made_heading : (b : Bool) (old made new : SectionOf Item) → heading_of made ≡ heading_of old → cond b (Err BadSection) (Ok made) ≡ Ok new → heading_of new ≡ heading_of old
+  made_heading true old made new same is = absurd cc
+  made_heading false old made new same is = let alike : made ≡ new = cc in ap heading_of (sym alike) ∙ same
 
-  -- a section keeps its name where what is put into it, unless it is refused, keeps it
-  pub name_kept : (b : Bool) (old made new : SectionOf Item) (answer : Result (Unit {0}) (Refusal FragCause)) → made.name ≡ old.name
-      → Changes old new answer (cond b (Err BadSection) (Ok made)) → new.name ≡ old.name
-  name_kept b old made new (Ok done) same changed = made_name b old made new same changed
-  name_kept b old made new (Err refusal) same changed = ap (λ (s : SectionOf Item). s.name) changed.1
+  -- a section keeps its heading where what is put into it, unless it is refused, keeps it
+  pub heading_kept : (b : Bool) (old made new : SectionOf Item) (answer : Result (Unit {0}) (Refusal FragCause)) → heading_of made ≡ heading_of old
+      → Changes old new answer (cond b (Err BadSection) (Ok made)) → heading_of new ≡ heading_of old
+  heading_kept b old made new (Ok done) same changed = made_heading b old made new same changed
+  heading_kept b old made new (Err refusal) same changed = ap heading_of changed.1
 
   refused_replaced : (sections : List (SectionOf Item)) (number : ℕ) (refusal : Refusal FragCause) (due : Result (SectionOf Item) FragCause)
       → FailsLast refusal due → FailsLast refusal (with_section_or_fault sections number due)
@@ -51,26 +52,26 @@ module _ {Item : Type 0} where
       by_answer (Ok done) changed = ap (with_section_or_fault sections number) changed
       by_answer (Err refusal) changed = (refused_replaced sections number refusal (put old) changed.0, same_place sections number old new d there changed.1)
 
-either_name : (b : Bool) (old made : LooseSection) → made.name ≡ old.name → (cond b old made).name ≡ old.name
-either_name true old made same = refl
-either_name false old made same = same
+either_heading : (b : Bool) (old made : LooseSection) → heading_of made ≡ heading_of old → heading_of (cond b old made) ≡ heading_of old
+either_heading true old made same = refl
+either_heading false old made same = same
 
-pub run_name : (pos : Pos) (section : LooseSection) → (with_run pos section).name ≡ section.name
-run_name pos section = either_name (ends_in_run section.items) section (with_item (new_item pos Run) section) refl
+pub run_heading : (pos : Pos) (section : LooseSection) → heading_of (with_run pos section) ≡ heading_of section
+run_heading pos section = either_heading (ends_in_run section.items) section (with_item (new_item pos Run) section) refl
 
 module _ (old new : LooseSection) (answer : Result (Unit {0}) (Refusal FragCause)) where
-  -- a section that an item is put into keeps its name
-  pub item_name : (item : LooseItem) → Changes old new answer (item_put item old) → new.name ≡ old.name
-  item_name item = name_kept (takes_zeros_alone old && not (is_known_zeros item.content)) old (with_item item old) new answer refl
+  -- a section that an item is put into keeps its heading
+  pub item_heading : (item : LooseItem) → Changes old new answer (item_put item old) → heading_of new ≡ heading_of old
+  item_heading item = heading_kept (takes_zeros_alone old && not (is_known_zeros item.content)) old (with_item item old) new answer refl
 
-  -- a section that bytes are put into keeps its name
-  pub bytes_name : (pos : Pos) (more : List ℕ) → Changes old new answer (bytes_put pos more old) → new.name ≡ old.name
-  bytes_name pos more = name_kept (takes_zeros_alone old && not (list_all is_zero more)) old (with_bytes pos more old) new answer (run_name pos old)
+  -- a section that bytes are put into keeps its heading
+  pub bytes_heading : (pos : Pos) (more : List ℕ) → Changes old new answer (bytes_put pos more old) → heading_of new ≡ heading_of old
+  bytes_heading pos more = heading_kept (takes_zeros_alone old && not (list_all is_zero more)) old (with_bytes pos more old) new answer (run_heading pos old)
 
-  -- a section that a field is put into keeps its name
-  pub field_name : (pos : Pos) (number : ℕ) (size : FieldSize) (role : FieldRole) (form : Form) → Changes old new answer (field_put pos number size role form old) → new.name ≡ old.name
-  field_name pos number size role form = name_kept (takes_zeros_alone old) old (with_field pos number size role form old) new answer (run_name pos old)
+  -- a section that a field is put into keeps its heading
+  pub field_heading : (pos : Pos) (number : ℕ) (size : FieldSize) (role : FieldRole) (form : Form) → Changes old new answer (field_put pos number size role form old) → heading_of new ≡ heading_of old
+  field_heading pos number size role form = heading_kept (takes_zeros_alone old) old (with_field pos number size role form old) new answer (run_heading pos old)
 
-  -- a section that an item is put into that grows keeps its name
-  pub growing_name : (pos : Pos) (number : ℕ) (kind : Growth) (suffix : Option Suffix) (form : Form) → Changes old new answer (growing_put pos number kind suffix form old) → new.name ≡ old.name
-  growing_name pos number kind suffix form = name_kept (takes_zeros_alone old) old (with_growing pos number kind suffix form old) new answer refl
+  -- a section that an item is put into that grows keeps its heading
+  pub growing_heading : (pos : Pos) (number : ℕ) (kind : Growth) (suffix : Option Suffix) (form : Form) → Changes old new answer (growing_put pos number kind suffix form old) → heading_of new ≡ heading_of old
+  growing_heading pos number kind suffix form = heading_kept (takes_zeros_alone old) old (with_growing pos number kind suffix form old) new answer refl

@@ -1,5 +1,5 @@
 -- The definitions, computed on small items and sections.
-use Rattle.std.proofs.Common.{◌≡◌, ℕ, true, false, List, [], ◌∷◌, ◌++◌, None, Result, Ok, Err, refl}
+use Rattle.std.proofs.Common.{◌≡◌, ℕ, true, false, List, [], ◌∷◌, ◌++◌, None, Some, Result, Ok, Err, refl}
 use Rattle.std.specs.Prelude.{codes}
 use Rattle.asm_base.specs.Refusals.{◌>>=◌}
 use Rattle.asm_base.specs.declared.positions.Pos.{Pos}
@@ -18,7 +18,8 @@ use Rattle.asm_frags.specs.SectionOf.{new_section}
 use Rattle.x86_insn.specs.declared.amounts.FieldKind.TheVariants.{Number}
 use Rattle.asm_frags.specs.Fields.{data_role}
 use Rattle.asm_frags.specs.Writing.{LooseItem, LooseSection, new_item, item_behind, with_bytes, bytes_put, field_put, growing_put, item_put}
-use Rattle.asm_frags.specs.Sections.{section_flags, first_sections, entered, put_into}
+use Rattle.asm_frags.specs.Groups.{groups_of}
+use Rattle.asm_frags.specs.Sections.{section_flags, first_sections, new_member, entered, entered_in, put_into}
 
 fill : ℕ → ℕ → ℕ → Content
 fill count size value = Fill (record { count = count; size = size; value = value })
@@ -55,6 +56,7 @@ filled_is : filled ≡ Ok (record {
   flags = section_flags 6;
   kind = 1;
   entry_size = 0;
+  group = None;
   bytes = 1 ∷ 2 ∷ 3 ∷ 4 ∷ 7 ∷ 0 ∷ 0 ∷ [];
   fields = record { pos = on_line 5; item = 3; offset = 5; section = 0; size = Two; role = data_role; in_item = false; form = constant_form 8 } ∷ [];
   items = item_behind 0 (item 1 Run) ∷ item_behind 4 (item 3 (fill 5 1 9)) ∷ item_behind 4 (item 4 Run) ∷ [];
@@ -91,7 +93,7 @@ unfolding first first_sections
 there = refl
 
 one_more : entered first (codes "foo") (section_flags 2) 1 0 ≡ Ok (3, first ++ new_section (codes "foo") (section_flags 2) 1 0 ∷ [])
-unfolding first first_sections
+unfolding first first_sections groups_of
 one_more = refl
 
 other_flags : entered first (codes ".data") (section_flags 2) 1 0 ≡ Err BadSection
@@ -105,6 +107,31 @@ other_kind = refl
 other_entry_size : entered first (codes ".text") (section_flags 6) 1 4 ≡ Err BadSection
 unfolding first first_sections
 other_entry_size = refl
+
+-- `.text` of a group is another section, and so is that of another group
+grouped : List LooseSection
+grouped = first ++ new_member (record { signature = codes "f"; comdat = true }) (codes ".text") (section_flags 518) 1 0 ∷ []
+
+in_group : entered_in first (codes ".text") (section_flags 518) 1 0 (Some (codes "f", true)) ≡ Ok (3, grouped)
+unfolding first first_sections grouped groups_of
+in_group = refl
+
+in_group_again : entered_in grouped (codes ".text") (section_flags 518) 1 0 (Some (codes "f", true)) ≡ Ok (3, grouped)
+unfolding first first_sections grouped groups_of
+in_group_again = refl
+
+told_otherwise : entered_in grouped (codes ".data") (section_flags 515) 1 0 (Some (codes "f", false)) ≡ Err BadSection
+unfolding first first_sections grouped groups_of
+told_otherwise = refl
+
+in_other_group : entered_in grouped (codes ".text") (section_flags 518) 1 0 (Some (codes "g", true))
+    ≡ Ok (4, grouped ++ new_member (record { signature = codes "g"; comdat = true }) (codes ".text") (section_flags 518) 1 0 ∷ [])
+unfolding first first_sections grouped groups_of
+in_other_group = refl
+
+in_none : entered grouped (codes ".text") (section_flags 6) 1 0 ≡ Ok (0, grouped)
+unfolding first first_sections grouped groups_of
+in_none = refl
 
 bytes_in_bss : put_into (bytes_put (on_line 1) (0 ∷ 1 ∷ [])) first 2 ≡ Err BadSection
 unfolding first first_sections

@@ -1,7 +1,8 @@
 -- What is kept where items come to address 0, and where the forms of fields are substituted.
-use Rattle.std.proofs.Common.{◌≡◌, ℕ, zero, suc, ◌+◌, ◌<◌, ◌≤◌, max, Bool, List, [], ◌∷◌, ◌++◌, length, map, take, drop, refl, sym, ap, ◌∙◌, arith, add-one, get_or, set}
+use Rattle.std.proofs.Common.{◌≡◌, ℕ, zero, suc, ◌+◌, ◌<◌, ◌≤◌, max, Bool, List, [], ◌∷◌, ◌++◌, length, map, take, drop, refl, sym, ap, ◌∙◌, subst, arith, add-one, get_or, set}
 use Rattle.std.specs.List.{fold}
 use Rattle.std.proofs.lemmas.List.{length-map, append-nil, take_all, drop_all}
+use Rattle.std.proofs.lemmas.Simd.{map-map}
 use Rattle.std.proofs.lemmas.List.Elements.{All-map}
 use Rattle.asm_expr.specs.Forms.{Form}
 use Rattle.asm_frags.specs.declared.phases.Laid.{Laid}
@@ -12,7 +13,8 @@ use Rattle.item_contents.specs.Contents.{alignment_of}
 use Rattle.asm_frags.specs.PlainBytes.{field_end, FieldsStand, AreBytes}
 use Rattle.asm_frags.specs.Alignments.{alignment_of_all}
 use Rattle.asm_frags.specs.KnownExtents.{advanced, extent_of}
-use Rattle.asm_frags.specs.Sound.{AreNamed}
+use Rattle.asm_frags.specs.declared.groups.Group.{Group}
+use Rattle.asm_frags.specs.Sound.{AreNamed, MemberName, heading_of}
 use Rattle.asm_frags.specs.Writing.{LooseItem, LooseSection, ends_in_run}
 use Rattle.asm_frags.specs.SoundItems.{AreItems, AreBehind}
 use Rattle.asm_frags.specs.Substituting.{substituted_field, laid_item, laid_section}
@@ -89,13 +91,10 @@ module _ (substitute : Form → Form) where
   pub fields_substituted : (bytes : List ℕ) (fields all : List Field) → AreBytes bytes fields → all ≡ map (substituted_field substitute) fields → AreBytes bytes all
   fields_substituted bytes fields all sound is = rw is (record { small = sound.small; stand = stand-substituted bytes 0 fields sound.stand })
 
-  names-substituted : (sections : List LooseSection) → map (λ section. section.name) (map (laid_section substitute) sections) ≡ map (λ section. section.name) sections
-  names-substituted [] = refl
-  names-substituted (section ∷ sections) = ap (λ (names : List (List ℕ)). section.name ∷ names) (names-substituted sections)
+  headings-substituted : (sections : List LooseSection) → map heading_of (map (laid_section substitute) sections) ≡ map heading_of sections
+  headings-substituted sections = map-map heading_of (laid_section substitute) sections
 
-  -- the sections keep their names
-  pub named_substituted : (names : List (List ℕ)) (sections : List LooseSection) (all : List _) → AreNamed names sections
-      → all ≡ map (laid_section substitute) sections → AreNamed names all
-  named_substituted names sections all sound is =
-      let long : length (map (laid_section substitute) sections) ≡ length sections = simp length-map in
-      rw is (record { named = sound.named ∙ sym (names-substituted sections); few = rw long sound.few; short = sound.short })
+  -- the sections keep their headings
+  pub named_substituted : (names : List (List ℕ × ℕ)) (members : List (MemberName × ℕ)) (groups : List Group) (sections : List LooseSection) (all : List _)
+      → AreNamed names members groups (map heading_of sections) → all ≡ map (laid_section substitute) sections → AreNamed names members groups (map heading_of all)
+  named_substituted names members groups sections all sound is = rw is (subst (AreNamed names members groups) (sym (headings-substituted sections)) sound)

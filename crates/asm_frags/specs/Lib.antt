@@ -4,6 +4,7 @@ pub mod PlainBytes
 pub mod Alignments
 pub mod KnownExtents
 pub mod SectionOf
+pub mod Groups
 pub mod Writing
 pub mod Answers
 pub mod Sound

@@ -23,6 +23,7 @@ laid_section substitute section = record {
   flags = section.flags;
   kind = section.kind;
   entry_size = section.entry_size;
+  group = section.group;
   bytes = section.bytes;
   fields = map (substituted_field substitute) section.fields;
   items = map laid_item section.items;

@@ -33,6 +33,7 @@ bitflag_items! {
         const EXECINSTR = 4;
         const MERGE = 0x10;
         const STRINGS = 0x20;
+        const GROUP = 0x200;
         const TLS = 0x400;
     }
 }
@@ -43,7 +44,8 @@ impl Flags for SectionFlags {
     ghost exact = { ⊤ };
 
     ghost table = { (codes "WRITE", 1) ∷ (codes "ALLOC", 2) ∷ (codes "EXECINSTR", 4)
-        ∷ (codes "MERGE", 16) ∷ (codes "STRINGS", 32) ∷ (codes "TLS", 1024) ∷ [] };
+        ∷ (codes "MERGE", 16) ∷ (codes "STRINGS", 32) ∷ (codes "GROUP", 512)
+        ∷ (codes "TLS", 1024) ∷ [] };
 
     ghost set_of = { λ flags. flags.0 };
 

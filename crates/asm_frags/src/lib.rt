@@ -4,6 +4,7 @@
 mod faults;
 mod fields;
 mod flags;
+mod groups;
 mod item_list;
 mod items;
 mod known_extents;
@@ -11,6 +12,7 @@ mod laws;
 mod parts;
 mod phases;
 mod roles;
+mod section_keys;
 mod section_list;
 mod substituting;
 
@@ -20,6 +22,7 @@ pub use flags::{
     SHT_FINI_ARRAY, SHT_INIT_ARRAY, SHT_NOBITS, SHT_NOTE, SHT_PREINIT_ARRAY, SHT_PROGBITS,
     SectionFlags,
 };
+pub use groups::Group;
 pub use items::Frag;
 pub use known_extents::KnownExtent;
 pub use laws::stretches_are_fixed;

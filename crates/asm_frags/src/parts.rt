@@ -1,6 +1,6 @@
 //! Sections: the words of their headers, their plain bytes with fields, and their items in order.
 
-ghost use Rattle.std.specs.Prelude.{◌≡◌, ◌<◌, ◌≤◌, ◌^◌, ◌++◌, length, IfOk, IfErr, OnOk, OnErr};
+ghost use Rattle.std.specs.Prelude.{◌≡◌, ◌<◌, ◌≤◌, ◌^◌, ◌++◌, length, option_map, IfOk, IfErr, OnOk, OnErr};
 ghost use Rattle.asm_base.specs.declared.refusals.Refusal.TheVariants.{NoMemory};
 ghost use Rattle.asm_frags.specs.Substituting.{laid_section};
 ghost use Rattle.asm_frags.specs.Addresses.{section_laid_at};
@@ -8,6 +8,7 @@ ghost use Rattle.asm_frags.specs.Addresses.{section_laid_at};
 use crate::faults::{FragCause, FragFault};
 use crate::fields::{Field, FieldSize};
 use crate::flags::{SHT_NOBITS, SectionFlags};
+use crate::groups::Group;
 use crate::item_list::Items;
 use crate::items::Frag;
 use crate::known_extents::KnownExtent;
@@ -31,6 +32,7 @@ pub struct Section<P: Phase> {
     flags: SectionFlags,
     kind: u32,
     entry_size: u64,
+    group: Option<Group>,
     bytes: Vec<u8>,
     fields: Vec<Field>,
     items: Items<P>,
@@ -50,6 +52,7 @@ impl<P: Phase> Model for Section<P> {
       flags = inside.flags;
       kind = inside.kind;
       entry_size = inside.entry_size;
+      group = inside.group;
       bytes = inside.bytes.items;
       fields = inside.fields.items;
       items = inside.items;
@@ -64,6 +67,7 @@ impl<P: Phase> Section<P> {
     ghost use Rattle.asm_frags.specs.KnownExtents.{extent_of};
     ghost use Rattle.asm_frags.specs.PlainBytes.{AreBytes};
     ghost use Rattle.asm_frags.specs.SoundItems.{AreBehind};
+    ghost use Rattle.asm_frags.specs.Groups.{is_member_named};
     ghost use Rattle.asm_frags.specs.SectionOf.{new_section, is_alike};
 
     /// A section that nothing was put into.
@@ -73,14 +77,16 @@ impl<P: Phase> Section<P> {
         flags: SectionFlags,
         kind: u32,
         entry_size: u64,
+        group: Option<Group>,
     ) -> Section<P>
-        ensures { result ≡ new_section name flags kind entry_size }
+        ensures { result ≡ record (new_section name flags kind entry_size) { group = group } }
     {
         Section {
             name,
             flags,
             kind,
             entry_size,
+            group,
             bytes: Vec::new(alloc),
             fields: Vec::new(alloc),
             items: Items::new(alloc),
@@ -113,6 +119,25 @@ impl<P: Phase> Section<P> {
         ensures { result ≡ self.now.entry_size }
     {
         self.entry_size
+    }
+
+    /// The group that the section is in, if it is in one.
+    pub fn group(&self) -> Option<&Group>
+        ensures { option_map (λ group. group.now) result ≡ self.now.group }
+    {
+        self.group.as_ref()
+    }
+
+    /// Whether the section has this name and is in the group of this signature.
+    pub(crate) fn is_member_named(&self, signature: &[u8], name: &[u8]) -> bool
+        ensures { result ≡ is_member_named signature.now name.now self.now }
+    {
+        match &self.group {
+            Some(group) => {
+                signature == group.signature.as_bytes() && name == self.name.as_bytes()
+            }
+            None => false,
+        }
     }
 
     /// The plain bytes, which are 0 at each field.
@@ -344,6 +369,7 @@ impl Section<Loose> {
             flags,
             kind,
             entry_size,
+            group,
             bytes,
             mut fields,
             items,
@@ -355,6 +381,7 @@ impl Section<Loose> {
             flags,
             kind,
             entry_size,
+            group,
             bytes,
             fields,
             items,

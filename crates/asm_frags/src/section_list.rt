@@ -1,52 +1,71 @@
 //! The sections of a source in the order in which they are first seen.
 
-ghost use Rattle.std.specs.Prelude.{◌≡◌, ◌==◌, ◌≤◌, ◌<◌, ◌^◌, [], ◌∷◌, ◌++◌, length, false, map, slice_get, Some, IfOk, IfErr, IfSome, OnOk, is_some};
+ghost use Rattle.std.specs.Prelude.{◌≡◌, ◌==◌, ◌+◌, ◌≤◌, ◌<◌, ◌^◌, [], ◌∷◌, ◌++◌, length, nat_lt, position, option_map, true, false, All, map, slice_get, Some, IfOk, IfErr, IfSome, OnOk, is_some};
 ghost use Rattle.std.specs.List.{list_any};
+ghost use Rattle.asm_frags.specs.Groups.{is_otherwise};
 ghost use Rattle.asm_frags.specs.Substituting.{laid_section};
 ghost use Rattle.asm_base.specs.declared.refusals.Refusal.TheVariants.{NoMemory};
 
 use crate::faults::{FragCause, FragFault};
 use crate::fields::FieldSize;
 use crate::flags::{SHT_NOBITS, SHT_PROGBITS, SectionFlags};
+use crate::groups::Group;
 use crate::items::Frag;
 use crate::parts::Section;
 use crate::phases::{Laid, Loose, Phase};
 use crate::roles::FieldRole;
+use crate::section_keys::MemberKey;
 use crate::substituting::Substitution;
 use asm_base::{Pos, Text};
 use asm_expr::Linear;
 use bitflags::Flags;
-use indexmap::IndexSet;
+use indexmap::IndexMap;
 use item_contents::Growth;
-use std::alloc::Global;
+use std::alloc::{AllocError, Global};
 use std::marker::Model;
 use x86_insn::Suffix;
 
-/// The most sections: 30,000 that a source makes, and the three that are there from the beginning.
+/// The most sections and groups: 30,000 that a source makes, and the three sections that are there from
+/// the beginning.
 const MOST_SECTIONS: usize = 30_003;
 
-/// The sections of a source, each with its number.
+/// Whether one of these is said and the other is not.
+fn is_otherwise(one: bool, other: bool) -> bool
+    ensures { result ≡ is_otherwise one other }
+{
+    one != other
+}
+
+/// The sections of a source, each with its number, and the groups that they are in.
 #[derive(Drop)]
 pub struct Sections<P: Phase = Loose> {
     alloc: Global,
-    names: IndexSet<Vec<u8>>,
+    /// The numbers of those in no group.
+    names: IndexMap<Vec<u8>, u32>,
+    /// The numbers of those in groups.
+    members: IndexMap<MemberKey, u32>,
+    /// The groups in first-seen order, by their signatures: whether a linker keeps one alone.
+    groups: IndexMap<Vec<u8>, bool>,
     sections: Vec<Section<P>>,
 }
 
 impl<P: Phase> Model for Sections<P> {
-    ghost use Rattle.std.specs.Prelude.{List};
+    ghost use Rattle.std.specs.Prelude.{List, map};
     ghost use Rattle.asm_frags.specs.declared.items.Frag.{Frag};
     ghost use Rattle.asm_frags.specs.SectionOf.{SectionOf};
-    ghost use Rattle.asm_frags.specs.Sound.{AreNamed, plain_names};
+    ghost use Rattle.asm_frags.specs.Sound.{AreNamed, heading_of, plain_groups, plain_members, plain_names};
 
     ghost Value = { List (SectionOf (Frag P P.Address)) };
 
     ghost view = { λ inside. inside.sections.items };
 
-    ghost invariant = { λ inside. AreNamed (plain_names inside.names.keys) inside.sections.items };
+    ghost invariant = { λ inside. AreNamed (plain_names inside.names.entries)
+        (plain_members inside.members.entries) (plain_groups inside.groups.entries)
+        (map heading_of inside.sections.items) };
 }
 
 impl<P: Phase> Sections<P> {
+    ghost use Rattle.asm_frags.specs.Groups.{groups_of, has_signature, IsFlagged};
     ghost use Rattle.asm_frags.specs.SectionOf.{is_section_named, section_number};
 
     /// How many sections there are.
@@ -68,20 +87,53 @@ impl<P: Phase> Sections<P> {
     pub fn as_slice(&self) -> &[Section<P>]
         ensures sections { result.now ≡ self.now }
         ensures within { length result.now ≤ 30003 }
+        ensures flagged { All IsFlagged result.now }
     {
         self.sections.as_slice()
     }
 
-    /// The number of the section of this name.
+    /// How many groups there are.
+    pub fn group_count(&self) -> usize
+        ensures len { result ≡ length (groups_of self.now) }
+        ensures within { length self.now + result ≤ 30003 }
+    {
+        self.groups.len()
+    }
+
+    /// Where the group of this signature stands among the groups, in the order in which they are first
+    /// seen.
+    pub fn group_index(&self, signature: &[u8]) -> Option<usize>
+        ensures { result ≡ position (has_signature signature.now) (groups_of self.now) }
+    {
+        self.groups.get_index_of(signature)
+    }
+
+    /// Whether there is a group of this signature.
+    pub fn has_group(&self, signature: &[u8]) -> bool
+        ensures { result ≡ list_any (has_signature signature.now) (groups_of self.now) }
+    {
+        self.groups.contains_key(signature)
+    }
+
+    /// The signature of the group of this index, and whether a linker keeps one alone.
+    pub fn group(&self, index: usize) -> (&[u8], bool)
+        requires { index < length (groups_of self.now) }
+        ensures { slice_get (groups_of self.now) index
+            ≡ Some (record { signature = result.0.now; comdat = result.1 }) }
+    {
+        match self.groups.get_index(index) {
+            Some((signature, comdat)) => (signature.as_slice(), *comdat),
+            None => (&[], false),
+        }
+    }
+
+    /// The number of the section of this name that is in no group.
     pub fn find(&self, name: &[u8]) -> Option<u32>
         ensures number { result ≡ section_number name.now self.now }
         ensures within { IfSome result (λ number. number < length self.now) }
         ensures presence { is_some result ≡ list_any (is_section_named name.now) self.now }
     {
-        match self.names.get_index_of(name) {
-            Some(number) => Some(number as u32),
-            None => None,
-        }
+        self.names.get(name).copied()
     }
 
     /// The section of this number.
@@ -89,23 +141,28 @@ impl<P: Phase> Sections<P> {
         requires { number < length self.now }
         ensures section { slice_get self.now number ≡ Some result.now }
         ensures within { length result.now.name ≤ 2 ^ 16 }
+        ensures flagged { IsFlagged result.now }
     {
         &self.sections[number as usize]
     }
 }
 
 impl Sections<Loose> {
-    ghost use Rattle.asm_frags.specs.Sections.{first_sections, entered, Enters, put_into, new_last};
+    ghost use Rattle.asm_frags.specs.Groups.{counted, groups_of, has_signature, is_member_named, is_told_otherwise, member_number, new_groups, says_group};
+    ghost use Rattle.asm_frags.specs.Sections.{first_sections, entered, entered_in, entered_member, Enters, put_into, new_last, new_member};
     ghost use Rattle.asm_frags.specs.SectionOf.{new_section, is_section_named, section_number};
     ghost use Rattle.asm_frags.specs.Answers.{Changes};
     ghost use Rattle.asm_frags.specs.Writing.{item_put, bytes_put, field_put, growing_put};
 
     /// Adds one of the first three sections.
+    #[tactic(auto, using(crate::proofs::NamedLemmas::counted_bare))]
     fn begin(&mut self, name: &[u8], flags: SectionFlags, kind: u32) -> Result<(), FragFault>
         requires new { list_any (is_section_named name.now) self.old ≡ false }
         requires short { length name.now ≤ 2 ^ 16 }
-        requires few { length self.old < 3 }
+        requires few { counted self.old < 3 }
+        requires bare { says_group flags ≡ false }
         ensures ok { OnOk result (self.new ≡ self.old ++ new_section name.now flags kind 0 ∷ []) }
+        ensures count { OnOk result (counted self.new ≡ counted self.old + 1) }
         ensures memory { IfErr result (λ fault. fault ≡ NoMemory) }
     {
         let name = Text::new(Vec::from_slice(self.alloc, name)?);
@@ -123,7 +180,9 @@ impl Sections<Loose> {
     {
         let mut sections = Sections {
             alloc,
-            names: IndexSet::new(alloc),
+            names: IndexMap::new(alloc),
+            members: IndexMap::new(alloc),
+            groups: IndexMap::new(alloc),
             sections: Vec::new(alloc),
         };
         let written = SectionFlags::WRITE.union(SectionFlags::ALLOC);
@@ -134,7 +193,15 @@ impl Sections<Loose> {
         Ok(sections)
     }
 
-    /// Adds a section whose name is new, and gives its number.
+    /// Whether there is room for a section more, and for so many groups.
+    fn has_room(&self, groups: usize) -> bool
+        requires { groups ≤ 1 }
+        ensures { result ≡ nat_lt (counted self.now + groups) 30003 }
+    {
+        self.sections.len() + self.groups.len() + groups < MOST_SECTIONS
+    }
+
+    /// Adds a section in no group whose name is new, and gives its number.
     fn add(
         &mut self,
         name: Text,
@@ -144,33 +211,136 @@ impl Sections<Loose> {
     ) -> Result<u32, FragFault>
         requires new { list_any (is_section_named name) self.old ≡ false }
         requires short { length name ≤ 2 ^ 16 }
+        requires bare { says_group flags ≡ false }
         ensures { Enters self.old self.new result
             (new_last self.old (new_section name flags kind entry_size)) }
     {
-        let number = self.sections.len();
-        if number >= MOST_SECTIONS {
+        if !self.has_room(0) {
             return Err(FragFault::Fault(FragCause::BadSection));
         }
+        let number = self.sections.len() as u32;
         let key = Vec::from_slice(self.alloc, name.as_bytes())?;
         self.sections.reserve(1)?;
-        self.names.insert(key)?;
+        self.names.insert(key, number)?;
         // `reserve` made room for it.
         self.sections
-            .push(Section::new(self.alloc, name, flags, kind, entry_size))
+            .push(Section::new(self.alloc, name, flags, kind, entry_size, None))
             .unwrap();
-        Ok(number as u32)
+        Ok(number)
     }
 
-    /// The number of the section of this name, which is added where the name is new. `BadSection` comes exactly where the
-    /// section has other flags, another type or another entry size, or where it would be one more than 30,003.
-    pub fn enter(
+    /// The name of a section in the group.
+    fn member_key(&self, group: &Group, name: &Text) -> Result<MemberKey, AllocError>
+        ensures signature { IfOk result (λ key. key.signature.items ≡ group.now.signature) }
+        ensures name { IfOk result (λ key. key.name.items ≡ name.now) }
+    {
+        Ok(MemberKey {
+            signature: Vec::from_slice(self.alloc, group.signature.as_bytes())?,
+            name: Vec::from_slice(self.alloc, name.as_bytes())?,
+        })
+    }
+
+    /// The number of the section of this name in the group of this signature, by looking at all sections.
+    fn look_through(&self, signature: &[u8], name: &[u8]) -> Option<u32>
+        ensures { result ≡ member_number signature.now name.now self.now }
+    {
+        for (number, section) in self.sections.iter().enumerate() {
+            if section.is_member_named(signature, name) {
+                return Some(number as u32);
+            }
+        }
+        None
+    }
+
+    /// The number of the section of this name in the group. Where there was no memory for the key, all
+    /// sections are looked at, so that a fault that is due comes first.
+    fn find_member(
+        &self,
+        key: &Result<MemberKey, AllocError>,
+        group: &Group,
+        name: &Text,
+    ) -> Option<u32>
+        requires signature { IfOk key.now (λ key. key.signature.items ≡ group.now.signature) }
+        requires name { IfOk key.now (λ key. key.name.items ≡ name.now) }
+        ensures number { result ≡ member_number group.now.signature name.now self.now }
+        ensures within { IfSome result (λ number. number < length self.now) }
+        ensures presence { is_some result
+            ≡ list_any (is_member_named group.now.signature name.now) self.now }
+    {
+        match key {
+            Ok(key) => self.members.get(key).copied(),
+            Err(_) => self.look_through(group.signature.as_bytes(), name.as_bytes()),
+        }
+    }
+
+    /// Whether the group was seen before with the other word on what a linker keeps.
+    fn is_told_otherwise(&self, group: &Group) -> bool
+        ensures { result ≡ is_told_otherwise group.now self.now }
+    {
+        match self.groups.get(group.signature.as_bytes()) {
+            Some(comdat) => is_otherwise(group.comdat, *comdat),
+            None => false,
+        }
+    }
+
+    /// How many groups more there are with this one.
+    fn new_groups(&self, group: &Group) -> usize
+        ensures value { result ≡ new_groups (groups_of self.now) (Some group.now) }
+        ensures within { result ≤ 1 }
+    {
+        if self.has_group(group.signature.as_bytes()) {
+            0
+        } else {
+            1
+        }
+    }
+
+    /// Adds a section whose name is new in its group, and gives its number.
+    fn add_member(
+        &mut self,
+        key: Result<MemberKey, AllocError>,
+        name: Text,
+        flags: SectionFlags,
+        kind: u32,
+        entry_size: u64,
+        group: Group,
+    ) -> Result<u32, FragFault>
+        requires signature { IfOk key (λ key. key.signature.items ≡ group.signature) }
+        requires name { IfOk key (λ key. key.name.items ≡ name) }
+        requires new { list_any (is_member_named group.signature name) self.old ≡ false }
+        requires same { is_told_otherwise group self.old ≡ false }
+        requires short { length name ≤ 2 ^ 16 }
+        requires flagged { says_group flags ≡ true }
+        ensures { Enters self.old self.new result
+            (new_last self.old (new_member group name flags kind entry_size)) }
+    {
+        if !self.has_room(self.new_groups(&group)) {
+            return Err(FragFault::Fault(FragCause::BadSection));
+        }
+        let number = self.sections.len() as u32;
+        let key = key?;
+        let signature = Vec::from_slice(self.alloc, group.signature.as_bytes())?;
+        self.sections.reserve(1)?;
+        self.members.reserve(1)?;
+        self.groups.insert(signature, group.comdat)?;
+        // `reserve` made room for both.
+        self.members.insert(key, number).unwrap();
+        self.sections
+            .push(Section::new(self.alloc, name, flags, kind, entry_size, Some(group)))
+            .unwrap();
+        Ok(number)
+    }
+
+    /// The number of the section of this name that is in no group, which is added where there is none.
+    fn enter_bare(
         &mut self,
         name: Text,
         flags: SectionFlags,
         kind: u32,
         entry_size: u64,
     ) -> Result<u32, FragFault>
-        requires { length name ≤ 2 ^ 16 }
+        requires short { length name ≤ 2 ^ 16 }
+        requires bare { says_group flags ≡ false }
         ensures { Enters self.old self.new result (entered self.old name flags kind entry_size) }
     {
         match self.find(name.as_bytes()) {
@@ -182,6 +352,62 @@ impl Sections<Loose> {
                 }
             }
             None => self.add(name, flags, kind, entry_size),
+        }
+    }
+
+    /// The number of the section of this name in the group, which is added where there is none.
+    fn enter_member(
+        &mut self,
+        name: Text,
+        flags: SectionFlags,
+        kind: u32,
+        entry_size: u64,
+        group: Group,
+    ) -> Result<u32, FragFault>
+        requires short { length name ≤ 2 ^ 16 }
+        requires flagged { says_group flags ≡ true }
+        ensures { Enters self.old self.new result
+            (entered_member self.old name flags kind entry_size group) }
+    {
+        if self.is_told_otherwise(&group) {
+            return Err(FragFault::Fault(FragCause::BadSection));
+        }
+        let key = self.member_key(&group, &name);
+        match self.find_member(&key, &group, &name) {
+            Some(number) => {
+                if self.section(number).is_alike(flags, kind, entry_size) {
+                    Ok(number)
+                } else {
+                    Err(FragFault::Fault(FragCause::BadSection))
+                }
+            }
+            None => self.add_member(key, name, flags, kind, entry_size, group),
+        }
+    }
+
+    /// The number of the section of this name, in the group of the given signature or in none, which is
+    /// added where there is none. `BadSection` comes exactly where the section has other flags, another
+    /// type or another entry size, where the group was seen before with the other word on what a linker
+    /// keeps, or where there would be more than 30,003 sections and groups.
+    pub fn enter(
+        &mut self,
+        name: Text,
+        flags: SectionFlags,
+        kind: u32,
+        entry_size: u64,
+        group: Option<(Text, bool)>,
+    ) -> Result<u32, FragFault>
+        requires short { length name ≤ 2 ^ 16 }
+        requires flagged { says_group flags ≡ is_some group }
+        ensures { Enters self.old self.new result
+            (entered_in self.old name flags kind entry_size group) }
+    {
+        match group {
+            None => self.enter_bare(name, flags, kind, entry_size),
+            Some((signature, comdat)) => {
+                let group = Group { signature, comdat };
+                self.enter_member(name, flags, kind, entry_size, group)
+            }
         }
     }
 
@@ -274,12 +500,16 @@ impl Sections<Loose> {
         let Sections {
             alloc,
             names,
+            members,
+            groups,
             sections,
         } = self;
         let sections = substitute_sections(alloc, sections, substitution)?;
         Ok(Sections {
             alloc,
             names,
+            members,
+            groups,
             sections,
         })
     }

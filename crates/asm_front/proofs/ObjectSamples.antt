@@ -7,6 +7,7 @@ use Rattle.asm_expr.specs.declared.forms.Term.{Term}
 use Rattle.asm_expr.specs.Forms.{term_of}
 use Rattle.asm_expr.specs.Settled.{put_all, settled}
 use Rattle.item_contents.specs.declared.contents.Content.TheVariants.{Run}
+use Rattle.asm_frags.specs.Groups.{groups_of}
 use Rattle.asm_frags.specs.declared.fields.Field.{Field}
 use Rattle.asm_frags.specs.declared.fields.FieldSize.{FieldSize}
 use Rattle.asm_frags.specs.declared.fields.FieldSize.TheVariants.{Four, Eight}
@@ -91,6 +92,7 @@ section name flags kind count fields items = record {
   flags = section_flags flags;
   kind = kind;
   entry_size = 0;
+  group = None;
   bytes = replicate count 0;
   fields = fields;
   items = items;
@@ -119,18 +121,18 @@ row : (length (bytes_of (object_of symbols sections)) ≡ 800)
     × (take 64 (drop 64 (bytes_of (object_of symbols sections))) ≡ replicate 24 0 ++ (1 ∷ 0 ∷ 0 ∷ 0 ∷ 1 ∷ []) ++ replicate 3 0 ++ (8 ∷ []) ++ replicate 7 0
     ++ (8 ∷ []) ++ replicate 7 0 ++ (2 ∷ 0 ∷ 0 ∷ 0 ∷ 3 ∷ []) ++ replicate 11 0)
     × (take 4 (drop 652 (bytes_of (object_of symbols sections))) ≡ 3 ∷ 0 ∷ 0 ∷ 0 ∷ [])
-unfolding symbol label x y symbols field run section sections bytes_of put_all settled low_bytes shift_in section_size address_of final_told laid_value held_value told_in_field told_beside final_form plus_terms expanded_within expanded half word xword string_table_of name_offsets reference_found field_relocation filled interleaved section_bytes fields_fault object_fault named_of listed symbol_kind symbol_size said_along table_of section_names null_header header_table elf_header file_of symbol_names symbol_table_of before_names all_names with_names file_with image_with image_of
+unfolding groups_of symbol label x y symbols field run section sections bytes_of put_all settled low_bytes shift_in section_size address_of final_told laid_value held_value told_in_field told_beside final_form plus_terms expanded_within expanded half word xword string_table_of name_offsets reference_found field_relocation filled interleaved section_bytes fields_fault object_fault named_of listed symbol_kind symbol_size said_along table_of section_names null_header header_table elf_header file_of symbol_names symbol_table_of before_names all_names with_names file_with image_with image_of
 row = (refl, refl, refl)
 
 -- the length of the file; its symbol 1; `sh_info` of the symbol table
 row_file : (length (bytes_of (object_of one_file no_sections)) ≡ 616)
     × (take 24 (drop 88 (bytes_of (object_of one_file no_sections))) ≡ (1 ∷ 0 ∷ 0 ∷ 0 ∷ 4 ∷ 0 ∷ 0xf1 ∷ 0xff ∷ []) ++ replicate 16 0)
     × (take 4 (drop 468 (bytes_of (object_of one_file no_sections))) ≡ 2 ∷ 0 ∷ 0 ∷ 0 ∷ [])
-unfolding symbol label one_file thread_local no_sections thread_sections field run section bytes_of put_all settled low_bytes shift_in section_size address_of final_told laid_value held_value told_in_field told_beside final_form plus_terms expanded_within expanded half word xword string_table_of name_offsets reference_found field_relocation filled interleaved section_bytes fields_fault object_fault named_of listed symbol_kind symbol_size said_along table_of section_names null_header header_table elf_header file_of symbol_names symbol_table_of before_names all_names with_names file_with image_with image_of
+unfolding groups_of symbol label one_file thread_local no_sections thread_sections field run section bytes_of put_all settled low_bytes shift_in section_size address_of final_told laid_value held_value told_in_field told_beside final_form plus_terms expanded_within expanded half word xword string_table_of name_offsets reference_found field_relocation filled interleaved section_bytes fields_fault object_fault named_of listed symbol_kind symbol_size said_along table_of section_names null_header header_table elf_header file_of symbol_names symbol_table_of before_names all_names with_names file_with image_with image_of
 row_file = (refl, refl, refl)
 
 -- the length of the file, and its symbol 1, which is of type TLS
 row_thread : (length (bytes_of (object_of thread_local thread_sections)) ≡ 688)
     × (take 8 (drop 96 (bytes_of (object_of thread_local thread_sections))) ≡ 1 ∷ 0 ∷ 0 ∷ 0 ∷ 6 ∷ 0 ∷ 4 ∷ 0 ∷ [])
-unfolding symbol label one_file thread_local no_sections thread_sections field run section bytes_of put_all settled low_bytes shift_in section_size address_of final_told laid_value held_value told_in_field told_beside final_form plus_terms expanded_within expanded half word xword string_table_of name_offsets reference_found field_relocation filled interleaved section_bytes fields_fault object_fault named_of listed symbol_kind symbol_size said_along table_of section_names null_header header_table elf_header file_of symbol_names symbol_table_of before_names all_names with_names file_with image_with image_of
+unfolding groups_of symbol label one_file thread_local no_sections thread_sections field run section bytes_of put_all settled low_bytes shift_in section_size address_of final_told laid_value held_value told_in_field told_beside final_form plus_terms expanded_within expanded half word xword string_table_of name_offsets reference_found field_relocation filled interleaved section_bytes fields_fault object_fault named_of listed symbol_kind symbol_size said_along table_of section_names null_header header_table elf_header file_of symbol_names symbol_table_of before_names all_names with_names file_with image_with image_of
 row_thread = (refl, refl)

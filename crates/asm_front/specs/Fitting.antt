@@ -6,6 +6,7 @@ use Rattle.asm_base.specs.declared.refusals.Refusal.TheVariants as refusal
 use Rattle.asm_lines.specs.NextStatements.{TokenStatement}
 use Rattle.asm_symbols.specs.SymbolMap.{SymbolMap}
 use Rattle.asm_relax.specs.Settling.{LaidSections}
+use Rattle.object_laws.specs.GroupReading.{AreGroupsRead, AreGroupHeaders, MembersFlagged}
 use Rattle.object_laws.specs.ObjectLimits.{ObjectFits}
 use Rattle.object_laws.specs.SmallSources.{HasFewHeaders}
 use Rattle.object_laws.specs.SectionPlaces.{SectionsFound}
@@ -58,11 +59,15 @@ TextFits flags contents name text (Err fault) = Unit {0}
 
 -- WHAT A READER FINDS
 
--- all numbers of the object fit their fields, it has few headers, and each section is found by its header, with its bytes where they stand in the file
+-- all numbers of the object fit their fields, it has few headers, and each section is found by its header, with its bytes where they stand in the file; the
+-- header of each group lists just the headers of its sections and of their relocations, just those have the flag, and no other header is that of a group
 pub record IsReadable (symbols : SymbolMap) (laid : LaidSections) : Type 0 where
   pub fits : ObjectFits symbols laid
   pub few : HasFewHeaders symbols laid
   pub sections : SectionsFound symbols laid
+  pub groups : AreGroupsRead symbols laid
+  pub groups_found : AreGroupHeaders symbols laid
+  pub members : MembersFlagged symbols laid
 
 -- so it is with the layout that the object of these statements is made of
 abbrev pub ObjectIsReadable : Flags → List TokenStatement → List ℕ → Type 0

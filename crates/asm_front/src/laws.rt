@@ -16,7 +16,7 @@ use asm_macro::handed_statements_are_placed;
 use asm_place::sources_are_small;
 use asm_relax::layouts_keep_sections;
 use loc_laws::locs_read_back;
-use object_laws::{objects_fit, source_sections_found};
+use object_laws::{groups_read, groups_stand, objects_fit, source_sections_found};
 use readback_laws::{statements_read_back, tables_continue};
 use source_ends::{ending_frames_are_ready, objects_are_finished};
 
@@ -66,7 +66,9 @@ pub fn written_reads_back()
 
 /// Where the program's own numbers fit, all numbers of the object fit their fields in the file, it has fewer headers than the
 /// first reserved index, and a reader finds each section by its header, with its bytes where they stand in the file: at the
-/// offset from which `written_reads_back` counts the places of instructions.
+/// offset from which `written_reads_back` counts the places of instructions. The header of each group of sections lists
+/// just the headers of its sections and of their relocations, just those have the flag `SHF_GROUP`, and no other header has
+/// the type of a group.
 pub fn written_is_readable()
     ensures { (flags : Flags) (contents : Contents) (name source : List ℕ) (made : NotedObject)
         (files : List (List ℕ)) → assembly_of flags contents name source ≡ assembled made files
@@ -83,4 +85,6 @@ pub fn written_is_readable()
     layouts_keep_sections();
     objects_fit();
     source_sections_found();
+    groups_read();
+    groups_stand();
 }

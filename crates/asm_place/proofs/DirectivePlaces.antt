@@ -349,7 +349,8 @@ ident_walk : (pos : Pos) (tokens : List SpelledToken) (placed : Placed) → Plac
 unfolding place_ident
 ident_walk pos tokens placed stands =
     after (one_string tokens)
-    (λ text. step (both_fine _ (entered_adds placed.sections (codes ".comment") comment_header) (entered_fields (count placed) placed.sections (codes ".comment") comment_header))
+    (λ text. step (both_fine _ (entered_adds placed.sections (codes ".comment") comment_header (λ same. omega (arith, same)))
+    (entered_fields (count placed) placed.sections (codes ".comment") comment_header (λ same. omega (arith, same))))
     (λ pair has. let more = sections_stay placed pair.0 has.0.grows has.1 stands in
     stays_on placed (record placed { sections = pair.0 }) _ more
     (bytes_walk pos pair.1 (comment_bytes (items_in pair.0 pair.1) text) (record placed { sections = pair.0 }) more.stands)))

@@ -1,5 +1,5 @@
 -- Directives only add to sections.
-use Rattle.std.proofs.Common.{ℕ, nat_le, Bool, true, false, List, [], ◌∷◌, Option, None, Some, Result, Ok, sym, subst}
+use Rattle.std.proofs.Common.{ℕ, nat_le, Bool, true, false, List, [], ◌∷◌, Option, None, Some, Result, Ok, sym, subst, arith}
 use Rattle.std.specs.Prelude.{◌^◌, codes, unwrap_or}
 use Rattle.std.specs.List.{list_any, count_by}
 use Rattle.std.specs.Result.{IfOk}
@@ -274,7 +274,7 @@ lcomm_steps pos tokens placed =
 ident_steps : (pos : Pos) (tokens : List SpelledToken) (placed : Placed) → Steps placed (place_ident pos tokens placed)
 unfolding place_ident
 ident_steps pos tokens placed =
-    after (one_string tokens) (λ text. step (entered_adds placed.sections (codes ".comment") comment_header)
+    after (one_string tokens) (λ text. step (entered_adds placed.sections (codes ".comment") comment_header (λ same. omega (arith, same)))
     (λ pair adds. from placed (record placed { sections = pair.0 }) (leads_by placed.sections pair.0 placed.procedures placed.lines adds)
     (bytes_steps pos pair.1 (comment_bytes (items_in pair.0 pair.1) text) (record placed { sections = pair.0 }))))
 

@@ -1,5 +1,6 @@
 -- Sections that are continued: by nothing, by bytes, a field or an item; and the list by a section.
-use Rattle.std.proofs.Common.{◌≡◌, ◌≢◌, ℕ, zero, suc, ◌+◌, ◌≤◌, ◌<◌, ◌⊎◌, inl, inr, Bool, true, false, cond, List, [], ◌∷◌, ◌++◌, All, codes, length, replicate, Option, Some, set, slice_get, refl, sym, ap, subst, ◌∙◌, arith, append-nil, append_assoc, length-append}
+use Rattle.std.proofs.Common.{◌≡◌, ◌≢◌, ℕ, zero, suc, ◌+◌, ◌≤◌, ◌⊎◌, inl, inr, Bool, true, false, cond, List, [], ◌∷◌, ◌++◌, All, codes, length, replicate, Option, Some, set, slice_get, refl, sym, ap, subst, ◌∙◌, arith, append-nil, append_assoc, length-append}
+use Rattle.std.specs.Prelude.{map}
 use Rattle.std.proofs.lemmas.Option.{none-some, same_Some}
 use Rattle.std.proofs.lemmas.List.{length-set}
 use Rattle.std.proofs.lemmas.List.Elements.{All-from_recursion, All-nil, All-cons, All-head, All-tail, All-append, All-push, All-set, All-weaker}
@@ -15,13 +16,14 @@ use Rattle.x86_insn.specs.declared.amounts.Suffix.{Suffix}
 use Rattle.asm_frags.specs.Fields.{width, growth_role}
 use Rattle.asm_frags.specs.PlainBytes.{field_end, FieldsStand}
 use Rattle.asm_frags.specs.declared.flags.SectionFlags.{SectionFlags}
+use Rattle.asm_frags.specs.Groups.{counted, groups_among, groups_of}
 use Rattle.asm_frags.specs.SectionOf.{new_section}
 use Rattle.asm_frags.specs.Sections.{section_flags, first_sections}
 use Rattle.asm_frags.specs.Writing.{LooseItem, LooseSection, ends_in_run, new_item, item_behind, with_item, with_run, with_bytes, with_field, with_growing}
 use Rattle.asm_values.specs.State.{nothing_placed}
 use Rattle.section_laws.specs.Within.{CountsItems, IsWithin, AreWithin, PutsStayWithin}
 use Rattle.asm_place.specs.Instructions.{with_more, IsContinued, Grows}
-use Rattle.asm_place.specs.SourceSizes.{HasShortName, AreFewSections}
+use Rattle.asm_place.specs.SourceSizes.{HasShortName, HasShortSignature, IsNoGroup, AreFewSections}
 
 -- two numbers are one or not
 pub same_or_not : (i j : ℕ) → (j ≡ i) ⊎ (j ≢ i)
@@ -151,6 +153,18 @@ grows_by before number section new there continued = record {
   ];
 }
 
+-- what an element tells is told of the one that is set in its place
+map_set : {X Y : Type 0} (tells : X → Y) (xs : List X) (i : ℕ) (old new : X) → slice_get xs i ≡ Some old → tells new ≡ tells old → map tells (set xs i new) ≡ map tells xs
+map_set tells [] i old new there same = absurd (none-some old there)
+map_set tells (x ∷ xs) zero old new there same = ap (λ told. told ∷ map tells xs) (same ∙ sym (ap tells (same_Some x old there)))
+map_set tells (x ∷ xs) (suc i) old new there same = ap (λ rest. tells x ∷ rest) (map_set tells xs i old new there same)
+
+-- the groups stay where a section of the same group is set
+groups_set : (before : List LooseSection) (number : ℕ) (section new : LooseSection) → slice_get before number ≡ Some section → new.group ≡ section.group
+    → groups_of (set before number new) ≡ groups_of before
+unfolding groups_of
+groups_set before number section new there same = ap groups_among (map_set (λ (s : LooseSection). s.group) before number section new there same)
+
 -- sections that stay
 pub adds_nothing : (sections : List LooseSection) → Adds sections sections
 adds_nothing sections = record { grows = grows_not sections; within = λ law all. all; few = λ few. few }
@@ -171,19 +185,27 @@ adds_to before number section new there added = record {
   within = λ law all. All-set IsWithin before number new (added.within law (All-there IsWithin before number section there all)) all;
   few = λ few.
       let count = few.few in
-      let name : new.name ≡ section.name =
-      ap (λ (s : LooseSection). s.name) (same_Some new (with_more section added.continued.bytes added.continued.fields added.continued.items) added.continued.there) in
+      let more = same_Some new (with_more section added.continued.bytes added.continued.fields added.continued.items) added.continued.there in
+      let name : new.name ≡ section.name = ap (λ (s : LooseSection). s.name) more in
+      let same = groups_set before number section new there (ap (λ (s : LooseSection). s.group) more) in
+      let groups = ap length same in
       let short = All-there HasShortName before number section there few.named in
+      let kind : new.kind ≡ section.kind = ap (λ (s : LooseSection). s.kind) more in
+      let other = All-there IsNoGroup before number section there few.kinds in
       record {
-        few = omega (arith, count, length-set before number new);
+        few = omega (arith, count, groups, length-set before number new);
         named = All-set HasShortName before number new (omega (arith, short, ap length name)) few.named;
+        signatures = subst (All HasShortSignature) (sym same) few.signatures;
+        kinds = All-set IsNoGroup before number new (λ is. other (sym kind ∙ is)) few.kinds;
       };
 }
 
--- a section more, which has no fields and no items, and a short name; and there were fewer than there may be
-pub adds_section : (before : List LooseSection) (new : LooseSection) → new.fields ≡ [] → new.items ≡ [] → length before < 30003 → HasShortName new
+-- a section more, which has no fields and no items, a short name, and the type of no group where all others have; and there was room for it
+pub adds_section : (before : List LooseSection) (new : LooseSection) → new.fields ≡ [] → new.items ≡ [] → counted (before ++ new ∷ []) ≤ 30003 → HasShortName new
+    → (All HasShortSignature (groups_of before) → All HasShortSignature (groups_of (before ++ new ∷ [])))
+    → (All IsNoGroup before → IsNoGroup new)
     → Adds before (before ++ new ∷ [])
-adds_section before new no_fields no_items room short = record {
+adds_section before new no_fields no_items room short signed other = record {
   grows = record { kept = λ number section there. subst (IsContinued section) (sym (get_append before (new ∷ []) number section there)) (continued_not section) };
   within = λ law all. All-push IsWithin before new all (record {
     fields = subst (All (λ (field : Field). field_end field ≤ length new.bytes)) (sym no_fields) (All-nil _);
@@ -192,8 +214,10 @@ adds_section before new no_fields no_items room short = record {
     counted = subst (All (CountsItems new.fields new.items)) (sym no_fields) (All-nil _);
   });
   few = λ few. record {
-    few = omega (arith, room, length-append before (new ∷ []));
+    few = room;
     named = All-push HasShortName before new few.named short;
+    signatures = signed few.signatures;
+    kinds = All-push IsNoGroup before new few.kinds (other few.kinds);
   };
 }
 
@@ -316,10 +340,12 @@ nothing_within no_warn =
     All-from_recursion IsWithin first_sections
     (new_within (codes ".text") (section_flags 6) 1 0, (new_within (codes ".data") (section_flags 3) 1 0, (new_within (codes ".bss") (section_flags 3) 8 0, tt)))
 
--- the first sections are few, and their names short
+-- the first sections are few, their names short, and their types those of no group
 pub nothing_few : (no_warn : Bool) → AreFewSections (nothing_placed no_warn).sections
-unfolding first_sections
+unfolding first_sections groups_of
 nothing_few no_warn = record {
   few = omega arith;
   named = All-from_recursion HasShortName first_sections (omega arith, (omega arith, (omega arith, tt)));
+  signatures = All-nil HasShortSignature;
+  kinds = All-from_recursion IsNoGroup first_sections ((λ same. omega (arith, same)), ((λ same. omega (arith, same)), ((λ same. omega (arith, same)), tt)));
 }

@@ -1,5 +1,5 @@
 -- A statement changes one section at most of those that are there.
-use Rattle.std.proofs.Common.{◌≡◌, ◌≢◌, ℕ, zero, suc, Bool, true, false, cond, List, [], ◌∷◌, ◌++◌, length, Option, None, Some, Result, Ok, Err, refl, sym, ap, subst, arith, slice_get}
+use Rattle.std.proofs.Common.{◌≡◌, ◌≢◌, ℕ, zero, suc, Bool, true, false, cond, List, [], ◌∷◌, ◌++◌, length, Option, None, Some, Result, Ok, Err, inl, inr, refl, sym, ap, subst, arith, ◌+◌, slice_get}
 use Rattle.std.specs.Prelude.{◌&&◌, ◌^◌, nat_lt, not, drop, codes}
 use Rattle.std.specs.List.{list_any}
 use Rattle.std.specs.Result.{IfOk}
@@ -17,6 +17,7 @@ use Rattle.asm_lines.specs.NextStatements.{TokenStatement}
 use Rattle.asm_expr.specs.declared.naming.Name.TheVariants as naming
 use Rattle.item_contents.specs.declared.contents.Content.TheVariants as content
 use Rattle.item_contents.specs.ItemParts.{zeros_up_to}
+use Rattle.asm_frags.specs.Groups.{counted}
 use Rattle.asm_frags.specs.SectionOf.{new_section, is_alike, section_number}
 use Rattle.asm_frags.specs.Sections.{section_flags, entered_there, entered_by}
 use Rattle.asm_frags.specs.Writing.{LooseSection}
@@ -29,7 +30,7 @@ use Rattle.asm_words.specs.declared.directives.FrameDirective.{FrameDirective}
 use Rattle.asm_words.specs.declared.directives.Syntax.{Syntax}
 use Rattle.asm_words.specs.declared.directives.Syntax.TheVariants.{Att, Intel}
 use Rattle.asm_words.specs.Directives.{directive_of}
-use Rattle.asm_words.specs.SectionWords.{SectionWords, section_words}
+use Rattle.asm_words.specs.SectionWords.{SectionWords, section_words, said_group}
 use Rattle.asm_words.specs.Spaces.{space_size, space_of, log_of}
 use Rattle.asm_words.specs.SymbolKinds.{named_kind}
 use Rattle.asm_operands.specs.Operands.{is_name, names_symbol, is_assignment, begins_with_dot, begins_with_label, name_of, operands_of, is_dot, begins_with_place, symbol_name, each, needed}
@@ -47,7 +48,7 @@ use Rattle.asm_values.specs.State.{Placed, with_table, with_notes, with_names, k
 use Rattle.asm_declarations.specs.declared.section_changes.Header.{Header}
 use Rattle.asm_declarations.specs.Commons.{bss, with_space, with_common, is_said_local, place_space, place_comm, place_lcomm, SpaceWords, with_own, space_words}
 use Rattle.asm_declarations.specs.Idents.{items_in, comment_bytes, comment_header, place_ident, place_file, one_string, file_name}
-use Rattle.asm_declarations.specs.SectionChanges.{bare, with_current, option_trees, numbered, entered_as, enter_words, place_section, entered_now, place_pushed, back_to, popped, entry_size_in, header_by}
+use Rattle.asm_declarations.specs.SectionChanges.{bare, with_current, option_trees, numbered, with_signature, entered_as, enter_words, place_section, entered_now, place_pushed, back_to, popped, entry_size_in}
 use Rattle.asm_declarations.specs.SymbolWords.{place_said, place_type}
 use Rattle.asm_frames.specs.Placing.{place_frame}
 use Rattle.asm_line_tables.specs.Keeping.{OnlyLines}
@@ -60,6 +61,8 @@ use Rattle.asm_place.specs.PutSections.{section_of_directive, section_put}
 use Rattle.asm_place.specs.Remarks.{place_err, place_error, place_warning}
 use Rattle.asm_place.specs.Sources.{pos_at, located, place}
 use Rattle.asm_place.specs.SyntaxWords.{with_syntax, says_names, place_syntax}
+use Rattle.asm_place.proofs.EnteredSections.{IsEntered, for_entered}
+use Rattle.asm_place.proofs.SectionKinds.{headed}
 use Rattle.asm_place.proofs.GrowthLemmas.{get_append}
 use Rattle.asm_place.proofs.LabelLemmas.{tokens_unlabelled}
 use Rattle.asm_place.proofs.Walks.{TablesKeep, Fine, made, refused, known, weaker, step, after, either}
@@ -109,7 +112,7 @@ module _ (number : ℕ) (held : LooseSection) where
   by_enters : (sections : List LooseSection) (target : Option ℕ) (name : List ℕ) (header : Header) → Holds number held sections
       → Fine (Enters target) (numbered (entered_by sections target name (section_flags header.flags) header.kind header.entry_size))
   by_enters sections None name header there =
-      new_enters sections (new_section name (section_flags header.flags) header.kind header.entry_size) (nat_lt (length sections) 30003) there
+      new_enters sections (new_section name (section_flags header.flags) header.kind header.entry_size) (nat_lt (counted sections + 0) 30003) there
   by_enters sections (Some target) name header there = known_enters sections target (slice_get sections target) header there
 
   enters : (sections : List LooseSection) (name : List ℕ) (header : Header) → Holds number held sections
@@ -117,15 +120,22 @@ module _ (number : ℕ) (held : LooseSection) where
   unfolding entered_as
   enters sections name header there = either (nat_lt (2 ^ 16) (length name)) (refused BadSection) (by_enters sections (section_number name sections) name header there)
 
+  is_kept : (sections : List LooseSection) (pair : List LooseSection × ℕ) → IsEntered sections pair → Holds number held sections → Holds number held pair.0
+  is_kept sections pair is there = elim is [
+    | inl old ↦ subst (Holds number held) (sym old.same) there
+    | inr new ↦ subst (Holds number held) (sym new.last) (get_append sections (new.section ∷ []) number held there)
+  ]
+
   words_keep : (pos : Pos) (words : SectionWords) (placed : Placed) → Kept number held placed → Fine (Kept number held) (enter_words pos words placed)
   unfolding enter_words
   words_keep pos words placed kept =
       let trees = option_trees words.entry_size in
-      let named = with_names pos trees placed in
+      let named = with_signature pos words.signature (with_names pos trees placed) in
       after (entry_size_in (known_here named) words.entry_size)
-      (λ size. after (header_by placed.sections words size) (λ header. step (enters placed.sections words.name header kept)
-      (λ pair entered. after (allowed (naming_of trees placed.table) named.table)
-      (λ table. made (with_table (with_current pair.1 (record named { sections = pair.0 })) table) entered.there))))
+      (λ size. step (headed placed.sections words size) (λ header other. after (said_group words)
+      (λ group. step (weaker (for_entered placed.sections group words.name header other) (λ pair is. is_kept placed.sections pair is kept))
+      (λ pair there. after (allowed (naming_of trees placed.table) named.table)
+      (λ table. made (with_table (with_current pair.1 (record named { sections = pair.0 })) table) there)))))
 
   section_keeps : (pos : Pos) (tokens : List SpelledToken) (placed : Placed) → Kept number held placed → Fine (Kept number held) (place_section pos tokens placed)
   unfolding place_section

@@ -9,6 +9,8 @@ mod BodyLemmas
 mod Walks
 mod TakenPlaces
 mod LineSteps
+mod EnteredSections
+mod SectionKinds
 mod ProcedureSteps
 mod SectionSteps
 mod DirectiveSteps

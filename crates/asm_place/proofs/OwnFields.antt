@@ -1,30 +1,29 @@
 -- Each field of a section is its own, and holds a target where it is a jump's, whatever is put into sections and whichever are entered.
-use Rattle.std.proofs.Common.{◌≡◌, ℕ, zero, suc, ◌≤◌, ◌⊎◌, inl, inr, Bool, true, false, cond, List, [], ◌∷◌, ◌++◌, All, length, Option, None, Some, Result, Ok, Err, set, slice_get, refl, sym, ap, subst, ◌∙◌}
-use Rattle.std.specs.Prelude.{◌^◌, nat_lt, codes}
+use Rattle.std.proofs.Common.{◌≡◌, ◌≢◌, ℕ, zero, suc, ◌≤◌, ◌⊎◌, inl, inr, List, [], ◌∷◌, ◌++◌, All, Option, None, Some, Result, Ok, Err, set, slice_get, refl, sym, ap, subst, ◌∙◌}
+use Rattle.std.specs.Prelude.{codes}
 use Rattle.std.proofs.lemmas.Option.{none-some, same_Some}
 use Rattle.std.proofs.lemmas.List.Elements.{All-nil, All-push, All-weaker}
 use Rattle.asm_base.specs.declared.causes.FragCause.{FragCause}
-use Rattle.asm_base.specs.declared.causes.FragCause.TheVariants as frag
 use Rattle.asm_base.specs.declared.positions.Pos.{Pos}
-use Rattle.asm_declarations.specs.SectionChanges.{entered_as, numbered}
+use Rattle.asm_declarations.specs.SectionChanges.{entered_as}
 use Rattle.asm_declarations.specs.declared.section_changes.Header.{Header}
 use Rattle.asm_expr.specs.Forms.{Form}
 use Rattle.asm_frags.specs.declared.fields.Field.{Field}
 use Rattle.asm_frags.specs.declared.fields.FieldSize.{FieldSize}
 use Rattle.asm_frags.specs.declared.roles.FieldRole.{FieldRole}
 use Rattle.asm_frags.specs.Fields.{growth_role}
-use Rattle.asm_frags.specs.SectionOf.{new_section, is_alike, section_number}
-use Rattle.asm_frags.specs.Sections.{section_flags, first_sections, entered_there, entered_by, with_section_or_fault, put_into_there}
+use Rattle.asm_frags.specs.SectionOf.{new_section}
+use Rattle.asm_frags.specs.Sections.{section_flags, first_sections, with_section_or_fault, put_into_there}
 use Rattle.asm_frags.specs.Writing.{LooseSection, with_bytes, with_field, with_growing}
 use Rattle.asm_operands.specs.LayerFaults.{of_sections}
-use Rattle.asm_operands.specs.declared.place_faults.PlaceCause.TheVariants.{BadSection}
 use Rattle.item_contents.specs.declared.kinds.Growth.{Growth}
 use Rattle.x86_insn.specs.declared.amounts.FieldKind.TheVariants.{Branch}
 use Rattle.x86_insn.specs.declared.amounts.Suffix.{Suffix}
 use Rattle.asm_place.specs.SymbolPlaces.{HoldsTarget, IsOwnField, FieldsAreOwn}
+use Rattle.asm_place.proofs.EnteredSections.{IsEntered, as_entered}
 use Rattle.asm_place.proofs.GrowthLemmas.{same_or_not, get_set, get_set_other, run_keeps}
 use Rattle.asm_place.proofs.NamedSymbols.{up_to_more}
-use Rattle.asm_place.proofs.Walks.{Fine, made, refused, either}
+use Rattle.asm_place.proofs.Walks.{Fine, made, refused, weaker}
 
 -- where more symbols may be named, a target names none above the number either
 target_more : (last more : ℕ) → last ≤ more → (form : Form) → HoldsTarget last form → HoldsTarget more form
@@ -116,29 +115,13 @@ module _ (last : ℕ) where
     | inr same ↦ subst (λ (s : LooseSection). All (IsOwnField last number) s.fields) same (subst (All (IsOwnField last number)) (sym none) (All-nil (IsOwnField last number)))
   ]
 
-  -- a new section has none
-  new_fields : (sections : List LooseSection) (name : List ℕ) (header : Header) (test : Bool) → let new = new_section name (section_flags header.flags) header.kind header.entry_size in
-      Fine (λ pair. KeepsFields sections pair.0) (numbered (cond test (Ok (length sections, sections ++ new ∷ [])) (Err frag.BadSection)))
-  new_fields sections name header true = made _ (more_fields sections (new_section name (section_flags header.flags) header.kind header.entry_size) refl)
-  new_fields sections name header false = refused _
-
-  -- where the section is there already nothing comes
-  alike_fields : (sections : List LooseSection) (number : ℕ) (test : Bool)
-      → Fine (λ pair. KeepsFields sections pair.0) (numbered (cond test (Ok (number, sections)) (Err frag.BadSection)))
-  alike_fields sections number true = made _ (λ own. own)
-  alike_fields sections number false = refused _
-
-  known_fields : (sections : List LooseSection) (number : ℕ) (found : Option LooseSection) (header : Header)
-      → Fine (λ pair. KeepsFields sections pair.0) (numbered (entered_there sections number found (section_flags header.flags) header.kind header.entry_size))
-  known_fields sections number None header = refused _
-  known_fields sections number (Some section) header = alike_fields sections number (is_alike section (section_flags header.flags) header.kind header.entry_size)
-
-  by_fields : (sections : List LooseSection) (number : Option ℕ) (name : List ℕ) (header : Header)
-      → Fine (λ pair. KeepsFields sections pair.0) (numbered (entered_by sections number name (section_flags header.flags) header.kind header.entry_size))
-  by_fields sections None name header = new_fields sections name header (nat_lt (length sections) 30003)
-  by_fields sections (Some number) name header = known_fields sections number (slice_get sections number) header
+  -- a new section has none, and where the section is there already nothing comes
+  pub is_fields : (sections : List LooseSection) (pair : List LooseSection × ℕ) → IsEntered sections pair → KeepsFields sections pair.0
+  is_fields sections pair is = elim is [
+    | inl old ↦ subst (KeepsFields sections) (sym old.same) (λ own. own)
+    | inr new ↦ subst (KeepsFields sections) (sym new.last) (more_fields sections new.section new.fields)
+  ]
 
   -- by its name
-  pub entered_fields : (sections : List LooseSection) (name : List ℕ) (header : Header) → Fine (λ pair. KeepsFields sections pair.0) (entered_as sections name header)
-  unfolding entered_as
-  entered_fields sections name header = either (nat_lt (2 ^ 16) (length name)) (refused BadSection) (by_fields sections (section_number name sections) name header)
+  pub entered_fields : (sections : List LooseSection) (name : List ℕ) (header : Header) → header.kind ≢ 17 → Fine (λ pair. KeepsFields sections pair.0) (entered_as sections name header)
+  entered_fields sections name header other = weaker (as_entered sections name header (λ all. other)) (λ pair is. is_fields sections pair is)

@@ -1,9 +1,8 @@
 -- What is put into sections, and which are entered: each symbol that has a place stands in its section.
-use Rattle.std.proofs.Common.{◌≡◌, ℕ, Bool, true, false, cond, List, [], ◌∷◌, ◌++◌, length, Option, None, Some, Result, Ok, Err, refl, slice_get}
-use Rattle.std.specs.Prelude.{◌&&◌, ◌^◌, All, nat_lt, not}
+use Rattle.std.proofs.Common.{◌≡◌, ℕ, List, [], ◌∷◌, ◌++◌, length, Option, None, Some, Result, Ok, Err, inl, inr, refl, ap, ◌∙◌, slice_get}
+use Rattle.std.specs.Prelude.{◌&&◌, All, not}
 use Rattle.std.specs.List.{list_all}
 use Rattle.asm_operands.specs.declared.place_faults.PlaceCause.{PlaceCause}
-use Rattle.asm_operands.specs.declared.place_faults.PlaceCause.TheVariants.{BadSection}
 use Rattle.asm_base.specs.declared.notes.Noted.{Noted}
 use Rattle.asm_base.specs.declared.positions.Pos.{Pos}
 use Rattle.asm_base.specs.Tokens.{SpelledToken}
@@ -11,29 +10,27 @@ use Rattle.asm_expr.specs.Forms.{Form}
 use Rattle.item_contents.specs.declared.contents.Content.{Content}
 use Rattle.asm_base.specs.declared.causes.FragCause.{FragCause}
 use Rattle.asm_frags.specs.declared.fields.FieldSize.{FieldSize}
-use Rattle.asm_base.specs.declared.causes.FragCause.TheVariants as frag
-use Rattle.asm_frags.specs.SectionOf.{new_section, is_alike, section_number}
 use Rattle.item_contents.specs.Zeros.{is_zero}
 use Rattle.item_contents.specs.Contents.{is_known_zeros}
 use Rattle.asm_frags.specs.declared.roles.FieldRole.{FieldRole}
 use Rattle.x86_insn.specs.declared.amounts.Suffix.{Suffix}
 use Rattle.item_contents.specs.declared.kinds.Growth.{Growth}
 use Rattle.asm_frags.specs.Writing.{LooseSection, new_item, takes_zeros_alone, with_item, with_bytes, with_field, with_growing, bytes_put, field_put, item_put, growing_put}
-use Rattle.asm_frags.specs.Sections.{section_flags, entered_there, entered_by}
-use Rattle.asm_declarations.specs.declared.section_changes.Header.{Header}
 use Rattle.asm_values.specs.declared.stacks.Entered.{Entered}
 use Rattle.asm_base.specs.Refusals.{◌>>=◌}
 use Rattle.asm_operands.specs.Operands.{operands_of}
 use Rattle.asm_uses.specs.Places.{spot_at}
 use Rattle.asm_values.specs.State.{Placed, with_table, with_notes, with_names, known_here, put_section, put_bytes_into, put_field_into, put_growing_into, push_into}
-use Rattle.asm_words.specs.SectionWords.{SectionWords, section_words}
+use Rattle.asm_words.specs.SectionWords.{SectionWords, section_words, said_group}
 use Rattle.asm_words.specs.declared.directives.Syntax.{Syntax}
 use Rattle.asm_place.specs.SyntaxWords.{with_syntax}
-use Rattle.asm_declarations.specs.SectionChanges.{with_current, option_trees, numbered, entered_as, enter_words, place_section, entered_now, place_pushed, back_to, popped, entry_size_in, header_by}
+use Rattle.asm_declarations.specs.SectionChanges.{with_current, option_trees, signed, with_signature, enter_words, place_section, entered_now, place_pushed, back_to, popped, entry_size_in}
 use Rattle.asm_expr.specs.Trees.{Tree}
 use Rattle.asm_place.specs.Instructions.{Grows}
-use Rattle.asm_place.proofs.GrowthLemmas.{IsAdded, adds_nothing, item_added, bytes_added, field_added, growing_added}
-use Rattle.asm_place.proofs.Walks.{Fine, made, refused, step, after, either}
+use Rattle.asm_place.proofs.EnteredSections.{IsEntered, for_entered}
+use Rattle.asm_place.proofs.SectionKinds.{headed}
+use Rattle.asm_place.proofs.GrowthLemmas.{Adds, IsAdded, adds_nothing, item_added, bytes_added, field_added, growing_added}
+use Rattle.asm_place.proofs.Walks.{Fine, made, refused, weaker, step, after, either}
 use Rattle.asm_uses.specs.Tables.{naming_of, allowed}
 use Rattle.std.proofs.Common.{◌-◌, ◌≤◌, arith, length-append}
 use Rattle.std.proofs.lemmas.List.Elements.{All-push, All-take, All-weaker}
@@ -49,10 +46,10 @@ use Rattle.x86_insn.specs.declared.amounts.FieldKind.TheVariants.{Branch}
 use Rattle.asm_frags.specs.Fields.{growth_role}
 use Rattle.asm_place.specs.SymbolPlaces.{HasItems, HoldsTarget, FieldsAreOwn, MeaningStands, SymbolStands, ProcedureStands, PlacesStand}
 use Rattle.asm_place.proofs.GrowthLemmas.{All-there, continued_on}
-use Rattle.asm_place.proofs.OwnFields.{KeepsOwn, fields_more, there_fields, bytes_own, field_own, growing_own, entered_fields}
-use Rattle.asm_place.proofs.SectionSteps.{there_adds, entered_adds}
+use Rattle.asm_place.proofs.OwnFields.{KeepsOwn, fields_more, there_fields, bytes_own, field_own, growing_own, is_fields}
+use Rattle.asm_place.proofs.SectionSteps.{there_adds, is_added}
 use Rattle.asm_place.proofs.SymbolLimits.{AreFit}
-use Rattle.asm_place.proofs.SymbolTables.{Names, Tables, Allows, trees_stand, allowed_stand}
+use Rattle.asm_place.proofs.SymbolTables.{Names, Tables, Allows, named_both, trees_stand, signed_stand, allowed_stand}
 
 -- WHAT IS KEPT
 
@@ -373,56 +370,53 @@ last_there : (sections : List LooseSection) (new : LooseSection) → slice_get (
 last_there [] new = refl
 last_there (section ∷ sections) new = last_there sections new
 
--- a new section is there
-new_there : (sections : List LooseSection) (name : List ℕ) (header : Header) (test : Bool) → let new = new_section name (section_flags header.flags) header.kind header.entry_size in
-    Fine IsThere (numbered (cond test (Ok (length sections, sections ++ new ∷ [])) (Err frag.BadSection)))
-new_there sections name header true =
-    let new = new_section name (section_flags header.flags) header.kind header.entry_size in
-    made _ (record { section = new; there = last_there sections new; enough = omega arith })
-new_there sections name header false = refused _
+-- a section that is entered is there, and where it is new it has no fields and no items
+is_there : (sections : List LooseSection) (pair : List LooseSection × ℕ) → IsEntered sections pair → IsThere pair
+is_there sections pair is = elim is [
+  | inl old ↦ record { section = old.section; there = ap (λ all. slice_get all pair.1) old.same ∙ old.there; enough = omega arith }
+  | inr new ↦ record {
+    section = new.section;
+    there = ap (λ all. slice_get all pair.1) new.last ∙ (ap (slice_get (sections ++ new.section ∷ [])) new.number ∙ last_there sections new.section);
+    enough = omega arith;
+  }
+]
 
--- so is one that is there already, if it is like that
-alike_there : (sections : List LooseSection) (number : ℕ) (test : Bool) → HasItems sections number 0
-    → Fine IsThere (numbered (cond test (Ok (number, sections)) (Err frag.BadSection)))
-alike_there sections number true has = made _ has
-alike_there sections number false has = refused _
+-- the names of a statement of `.section` become symbols
+signed_gain : (pos : Pos) (trees : List Tree) (signature : Option (List ℕ)) (placed : Placed) → PlacesStand placed
+    → Gains placed (with_signature pos signature (with_names pos trees placed))
+signed_gain pos trees signature placed stands =
+    let one = with_trees pos trees placed.table in
+    table_gains placed (signed pos signature one)
+    (named_both placed.sections placed.table.symbols one.symbols (signed pos signature one).symbols (trees_stand placed.sections pos trees placed.table)
+    (signed_stand placed.sections pos signature one)) stands
 
--- by the section that is found
-known_there : (sections : List LooseSection) (number : ℕ) (found : Option LooseSection) (header : Header) → slice_get sections number ≡ found
-    → Fine IsThere (numbered (entered_there sections number found (section_flags header.flags) header.kind header.entry_size))
-known_there sections number None header is = refused _
-known_there sections number (Some section) header is =
-    alike_there sections number (is_alike section (section_flags header.flags) header.kind header.entry_size) (record { section = section; there = is; enough = omega arith })
+-- what is known of sections where one is entered
+record IsGrown (last : ℕ) (sections : List LooseSection) (pair : List LooseSection × ℕ) : Type 0 where
+  adds : Adds sections pair.0
+  there : IsThere pair
+  fields : FieldsAreOwn last sections → FieldsAreOwn last pair.0
 
--- by the number of its name
-by_there : (sections : List LooseSection) (number : Option ℕ) (name : List ℕ) (header : Header)
-    → Fine IsThere (numbered (entered_by sections number name (section_flags header.flags) header.kind header.entry_size))
-by_there sections None name header = new_there sections name header (nat_lt (length sections) 30003)
-by_there sections (Some number) name header = known_there sections number (slice_get sections number) header refl
-
--- by its name
-entered_is_there : (sections : List LooseSection) (name : List ℕ) (header : Header) → Fine IsThere (entered_as sections name header)
-unfolding entered_as
-entered_is_there sections name header = either (nat_lt (2 ^ 16) (length name)) (refused BadSection) (by_there sections (section_number name sections) name header)
+is_grown : (last : ℕ) (sections : List LooseSection) (pair : List LooseSection × ℕ) → IsEntered sections pair → IsGrown last sections pair
+is_grown last sections pair is = record { adds = is_added sections pair is; there = is_there sections pair is; fields = is_fields last sections pair is }
 
 -- `.section` by its words
 enter_walk : (pos : Pos) (words : SectionWords) (placed : Placed) → PlacesStand placed → Walks placed (enter_words pos words placed)
 unfolding enter_words
 enter_walk pos words placed stands =
     let trees = option_trees words.entry_size in
-    let named = with_names pos trees placed in
-    let names = names_gain pos trees placed stands in
+    let named = with_signature pos words.signature (with_names pos trees placed) in
+    let names = signed_gain pos trees words.signature placed stands in
     closed placed named _ names
     (after (entry_size_in (known_here named) words.entry_size)
-    (λ size. after (header_by placed.sections words size)
-    (λ header. step (both_fine (entered_as placed.sections words.name header) (entered_adds placed.sections words.name header)
-    (both_fine (entered_as placed.sections words.name header) (entered_is_there placed.sections words.name header) (entered_fields (count named) placed.sections words.name header)))
-    (λ pair has. let more = sections_stay named pair.0 has.0.grows has.1.1 names.stands in
-    let there = current_stays pair.1 (record named { sections = pair.0 }) has.1.0 more.stands in
+    (λ size. step (headed placed.sections words size)
+    (λ header other. after (said_group words)
+    (λ group. step (weaker (for_entered placed.sections group words.name header other) (λ pair is. is_grown (count named) placed.sections pair is))
+    (λ pair has. let more = sections_stay named pair.0 has.adds.grows has.fields names.stands in
+    let there = current_stays pair.1 (record named { sections = pair.0 }) has.there more.stands in
     closes_on (count placed) named (record named { sections = pair.0 }) _ more
     (closes_on (count placed) (record named { sections = pair.0 }) (with_current pair.1 (record named { sections = pair.0 })) _ there
     (table_close (count placed) (with_current pair.1 (record named { sections = pair.0 })) (allowed (naming_of trees placed.table) named.table) there.stands
-    (allowed_stand pair.0 (naming_of trees placed.table) named.table)))))))
+    (allowed_stand pair.0 (naming_of trees placed.table) named.table))))))))
 
 -- and by its tokens
 pub section_walk : (pos : Pos) (tokens : List SpelledToken) (placed : Placed) → PlacesStand placed → Walks placed (place_section pos tokens placed)

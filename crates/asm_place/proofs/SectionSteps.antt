@@ -1,34 +1,33 @@
 -- What is put into sections, and which are entered: sections are only added to.
-use Rattle.std.proofs.Common.{◌≡◌, ℕ, Bool, true, false, cond, List, [], ◌∷◌, ◌++◌, length, Option, None, Some, Result, Ok, Err, refl, slice_get}
-use Rattle.std.specs.Prelude.{◌&&◌, ◌^◌, ◌≤◌, nat_lt, not}
+use Rattle.std.proofs.Common.{◌≡◌, ◌≢◌, ℕ, Bool, List, [], ◌∷◌, ◌++◌, Option, None, Some, Result, Ok, Err, inl, inr, refl, sym, subst, All, slice_get}
+use Rattle.std.specs.Prelude.{◌&&◌, not}
 use Rattle.std.specs.List.{list_all}
-use Rattle.std.proofs.lemmas.Bool.{ltb-true, ltb-false}
-use Rattle.asm_operands.specs.declared.place_faults.PlaceCause.TheVariants.{BadSection}
 use Rattle.asm_base.specs.declared.positions.Pos.{Pos}
 use Rattle.asm_base.specs.Tokens.{SpelledToken}
 use Rattle.asm_expr.specs.Forms.{Form}
 use Rattle.item_contents.specs.declared.contents.Content.{Content}
 use Rattle.asm_base.specs.declared.causes.FragCause.{FragCause}
 use Rattle.asm_frags.specs.declared.fields.FieldSize.{FieldSize}
-use Rattle.asm_base.specs.declared.causes.FragCause.TheVariants as frag
-use Rattle.asm_frags.specs.SectionOf.{new_section, is_alike, section_number}
 use Rattle.item_contents.specs.Zeros.{is_zero}
 use Rattle.item_contents.specs.Contents.{is_known_zeros}
 use Rattle.asm_frags.specs.declared.roles.FieldRole.{FieldRole}
 use Rattle.x86_insn.specs.declared.amounts.Suffix.{Suffix}
 use Rattle.item_contents.specs.declared.kinds.Growth.{Growth}
 use Rattle.asm_frags.specs.Writing.{LooseSection, new_item, takes_zeros_alone, with_item, with_bytes, with_field, with_growing, bytes_put, field_put, item_put, growing_put}
-use Rattle.asm_frags.specs.Sections.{section_flags, entered_there, entered_by, with_section_or_fault, put_into_there}
+use Rattle.asm_frags.specs.Sections.{with_section_or_fault, put_into_there}
 use Rattle.asm_declarations.specs.declared.section_changes.Header.{Header}
 use Rattle.asm_values.specs.declared.stacks.Entered.{Entered}
 use Rattle.asm_operands.specs.LayerFaults.{of_sections}
 use Rattle.asm_operands.specs.Operands.{operands_of}
 use Rattle.asm_values.specs.State.{Placed, with_table, with_names, known_here, put_section, put_bytes_into, put_field_into, put_growing_into, push_into}
-use Rattle.asm_words.specs.SectionWords.{SectionWords, section_words}
-use Rattle.asm_declarations.specs.SectionChanges.{with_current, option_trees, numbered, entered_as, enter_words, place_section, entered_now, place_pushed, back_to, popped, entry_size_in, header_by}
+use Rattle.asm_words.specs.SectionWords.{SectionWords, section_words, said_group}
+use Rattle.asm_declarations.specs.SectionChanges.{with_current, option_trees, with_signature, entered_as, entered_for, enter_words, place_section, entered_now, place_pushed, back_to, popped, entry_size_in}
+use Rattle.asm_place.specs.SourceSizes.{IsNoGroup}
+use Rattle.asm_place.proofs.EnteredSections.{IsEntered, as_entered, for_entered}
+use Rattle.asm_place.proofs.SectionKinds.{headed}
 use Rattle.asm_place.proofs.GrowthLemmas.{Adds, IsAdded, adds_nothing, adds_to, adds_section, item_added, bytes_added, field_added, growing_added}
 use Rattle.asm_uses.specs.Tables.{naming_of, allowed}
-use Rattle.asm_place.proofs.Walks.{Fine, made, refused, step, after, either, either_by}
+use Rattle.asm_place.proofs.Walks.{Fine, made, refused, weaker, step, after, either}
 use Rattle.asm_place.proofs.ProcedureSteps.{Steps, leads_by, still, grown}
 
 -- something is put into a section
@@ -85,48 +84,31 @@ growing_steps pos number kind suffix form placed =
     (made (with_growing pos number kind suffix form section) (growing_added pos number kind suffix form section))) number placed
 
 -- a section that is entered
-new_adds : (sections : List LooseSection) (name : List ℕ) (header : Header) → length name ≤ 2 ^ 16 → (test : Bool) → nat_lt (length sections) 30003 ≡ test
-    → let new = new_section name (section_flags header.flags) header.kind header.entry_size in
-    Fine (λ pair. Adds sections pair.0) (numbered (cond test (Ok (length sections, sections ++ new ∷ [])) (Err frag.BadSection)))
-new_adds sections name header short true is =
-    made _ (adds_section sections (new_section name (section_flags header.flags) header.kind header.entry_size) refl refl (ltb-true (length sections) 30003 is) short)
-new_adds sections name header short false is = refused _
-
--- a section that is there
-alike_adds : (sections : List LooseSection) (number : ℕ) (test : Bool)
-    → Fine (λ pair. Adds sections pair.0) (numbered (cond test (Ok (number, sections)) (Err frag.BadSection)))
-alike_adds sections number true = made _ (adds_nothing sections)
-alike_adds sections number false = refused _
-
--- if it is like that
-known_adds : (sections : List LooseSection) (number : ℕ) (found : Option LooseSection) (header : Header)
-    → Fine (λ pair. Adds sections pair.0) (numbered (entered_there sections number found (section_flags header.flags) header.kind header.entry_size))
-known_adds sections number None header = refused _
-known_adds sections number (Some section) header = alike_adds sections number (is_alike section (section_flags header.flags) header.kind header.entry_size)
-
--- by the number that the name has
-by_adds : (sections : List LooseSection) (number : Option ℕ) (name : List ℕ) (header : Header) → length name ≤ 2 ^ 16
-    → Fine (λ pair. Adds sections pair.0) (numbered (entered_by sections number name (section_flags header.flags) header.kind header.entry_size))
-by_adds sections None name header short = new_adds sections name header short (nat_lt (length sections) 30003) refl
-by_adds sections (Some number) name header short = known_adds sections number (slice_get sections number) header
+pub is_added : (sections : List LooseSection) (pair : List LooseSection × ℕ) → IsEntered sections pair → Adds sections pair.0
+is_added sections pair is = elim is [
+  | inl old ↦ subst (Adds sections) (sym old.same) (adds_nothing sections)
+  | inr new ↦ subst (Adds sections) (sym new.last) (adds_section sections new.section new.fields new.items new.few new.short new.signed new.other)
+]
 
 -- by its name
-pub entered_adds : (sections : List LooseSection) (name : List ℕ) (header : Header) → Fine (λ pair. Adds sections pair.0) (entered_as sections name header)
-unfolding entered_as
-entered_adds sections name header =
-    either_by (nat_lt (2 ^ 16) (length name)) (λ long. refused BadSection)
-    (λ short. by_adds sections (section_number name sections) name header (ltb-false (2 ^ 16) (length name) short))
+pub entered_adds : (sections : List LooseSection) (name : List ℕ) (header : Header) → header.kind ≢ 17 → Fine (λ pair. Adds sections pair.0) (entered_as sections name header)
+entered_adds sections name header other = weaker (as_entered sections name header (λ all. other)) (λ pair is. is_added sections pair is)
+
+-- in a group, if in one
+pub grouped_adds : (sections : List LooseSection) (group : Option (List ℕ × Bool)) (name : List ℕ) (header : Header) → (All IsNoGroup sections → header.kind ≢ 17)
+    → Fine (λ pair. Adds sections pair.0) (entered_for group sections name header)
+grouped_adds sections group name header other = weaker (for_entered sections group name header other) (λ pair is. is_added sections pair is)
 
 -- `.section` by its words
 enter_steps : (pos : Pos) (words : SectionWords) (placed : Placed) → Steps placed (enter_words pos words placed)
 unfolding enter_words
 enter_steps pos words placed =
     let trees = option_trees words.entry_size in
-    let named = with_names pos trees placed in
+    let named = with_signature pos words.signature (with_names pos trees placed) in
     after (entry_size_in (known_here named) words.entry_size)
-    (λ size. after (header_by placed.sections words size) (λ header. step (entered_adds placed.sections words.name header)
+    (λ size. step (headed placed.sections words size) (λ header other. after (said_group words) (λ group. step (grouped_adds placed.sections group words.name header other)
     (λ pair adds. after (allowed (naming_of trees placed.table) named.table)
-    (λ table. made (with_table (with_current pair.1 (record named { sections = pair.0 })) table) (leads_by placed.sections pair.0 placed.procedures placed.lines adds)))))
+    (λ table. made (with_table (with_current pair.1 (record named { sections = pair.0 })) table) (leads_by placed.sections pair.0 placed.procedures placed.lines adds))))))
 
 -- and by its tokens
 pub section_steps : (pos : Pos) (tokens : List SpelledToken) (placed : Placed) → Steps placed (place_section pos tokens placed)

@@ -13,6 +13,7 @@ use Rattle.asm_expr.specs.declared.naming.Name.{Name}
 use Rattle.asm_expr.specs.Forms.{Form, constant_form}
 use Rattle.asm_expr.specs.Trees.{Tree}
 use Rattle.asm_expr.specs.Trees as expr
+use Rattle.asm_declarations.specs.SectionChanges.{signed}
 use Rattle.asm_frags.specs.Writing.{LooseSection}
 use Rattle.asm_operands.specs.LayerFaults.{of_symbols}
 use Rattle.asm_operands.specs.declared.place_faults.PlaceCause.{PlaceCause}
@@ -265,6 +266,11 @@ module _ (sections : List LooseSection) where
   trees_stand pos (tree ∷ trees) table =
       named_both table.symbols (with_tree pos tree table).symbols (with_trees pos trees (with_tree pos tree table)).symbols (tree_stand pos tree table)
       (trees_stand pos trees (with_tree pos tree table))
+
+  -- the signature of a group
+  pub signed_stand : (pos : Pos) (signature : Option (List ℕ)) (table : Table) → Names table.symbols (signed pos signature table).symbols
+  signed_stand pos None table = named_so table.symbols
+  signed_stand pos (Some text) table = with_name_stand pos (naming.Plain text) tt table
 
   -- changes
   pub onto : {A : Type 0} (before between : Table) (tables : A → Table) {r : Result A PlaceCause} → Tables before between → Fine (λ x. Tables between (tables x)) r → Fine (λ x. Tables before (tables x)) r

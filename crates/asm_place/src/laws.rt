@@ -247,8 +247,9 @@ pub fn places_stand()
     leads_is_decided();
 }
 
-/// What all statements place has at most 30,003 sections, whose names have at most 2^16 bytes, and at most
-/// 2^24 symbols and names of files, which have at most 2^31 bytes.
+/// What all statements place has at most 30,003 sections and groups, whose names and signatures have at most 2^16 bytes,
+/// and at most 2^24 symbols and names of files, which have at most 2^31 bytes. No section has the type of a group of
+/// sections.
 pub fn sources_are_small()
     ensures { (statements : List TokenStatement) (no_warn : Bool) (placed : Placed)
         → place_all statements (nothing_placed no_warn) ≡ Ok placed → IsSmall placed }

@@ -26,6 +26,7 @@ use Rattle.asm_symbols.specs.SymbolMap.{changed}
 use Rattle.asm_symbols.specs.Interning.{named}
 use Rattle.asm_symbols.specs.Defining.{defined}
 use Rattle.asm_symbols.specs.Attributes.{bound}
+use Rattle.asm_frags.specs.Groups.{groups_of}
 use Rattle.asm_frags.specs.Sections.{first_sections}
 use Rattle.asm_frags.specs.KnownExtents.{extent_of}
 use Rattle.asm_operands.specs.Results.{all_steps}
@@ -190,5 +191,5 @@ object_rows : (length_and_text 0 (outcome_of []) ≡ (584, []))
     × (length_and_text 1 (flagged (codes "--fatal-warnings") (codes ".byte 255")) ≡ (592, 255 ∷ []))
     × (length_and_text 4 (outcome_of (codes ".byte '/,'#;nop/*x*/;ret # c")) ≡ (592, 0x2f ∷ 0x23 ∷ 0x90 ∷ 0xc3 ∷ []))
     × (length_and_text 1 (outcome_of (codes "\"a b\": nop\n.globl \"a b\"")) ≡ (624, 0x90 ∷ []))
-unfolding command_of asked_by faults_of rows_of_words taken_of invocation_of as_app clap_on_literals statements_of statements_in comment_length quoted_length piece_kind piece_length pieces_from line_of trimmed nul_found source_found is_blank is_name_start is_name_byte is_operator_byte is_long_operator token_kind token_length tokens_from digits place_followed place place_labelled has_wide_label place_tokens place_label label_symbol symbol_name checked_name string_value_from place_body place_directive directive_of the_directives place_by place_instruction bare_instruction insn_of head_of att_mnemonic whole_mnemonic the_att_names the_rows bytes_of rex_bits rex_byte put_data place_data place_said say_all plain_of name_of each all_steps symbol_of next_symbol named defined bound spot_at extent_of put_bytes_into put_field_into push_into first_sections with_trees with_tree are_meant is_meant allowed name_here numeral spelled_number character_code digits_leaf leaf_of prefix_by operator_byte operator_bytes operator_by level_of height whole operand_of read_at reading linear unary_form binary_form combined with_term with_terms raised put_all settled expression_of form_in number_after digit_of fits low_bytes put_forms changed finished placed line_table.placed planned linked linked_map expanded_within expanded plus_terms settled_sections laid_by rows_of levels_of top shifts_of shifts_from shift_behind size_at shift_in section_size address_of final_told laid_value held_value told_in_field told_beside first_fault object_fault fields_fault section_bytes interleaved filled reference_found field_relocation named_of listed symbol_kind symbol_size said_along table_of image_of image_with file_with with_names all_names before_names file_of elf_header null_header header_table half word xword section_names string_table_of name_offsets symbol_names symbol_table_of first_of final_form told head turn steps word_in word_of the_words conditional branch_end conditional_end repeat each_copy_of define call purge after_call exit include verdict holds depth_behind stops cut made_statements value_text parameter_of parameters_of filled_once call_arguments argument_named put_by put_from file_statements value_told definition_told meant_among is_defined_in
+unfolding groups_of command_of asked_by faults_of rows_of_words taken_of invocation_of as_app clap_on_literals statements_of statements_in comment_length quoted_length piece_kind piece_length pieces_from line_of trimmed nul_found source_found is_blank is_name_start is_name_byte is_operator_byte is_long_operator token_kind token_length tokens_from digits place_followed place place_labelled has_wide_label place_tokens place_label label_symbol symbol_name checked_name string_value_from place_body place_directive directive_of the_directives place_by place_instruction bare_instruction insn_of head_of att_mnemonic whole_mnemonic the_att_names the_rows bytes_of rex_bits rex_byte put_data place_data place_said say_all plain_of name_of each all_steps symbol_of next_symbol named defined bound spot_at extent_of put_bytes_into put_field_into push_into first_sections with_trees with_tree are_meant is_meant allowed name_here numeral spelled_number character_code digits_leaf leaf_of prefix_by operator_byte operator_bytes operator_by level_of height whole operand_of read_at reading linear unary_form binary_form combined with_term with_terms raised put_all settled expression_of form_in number_after digit_of fits low_bytes put_forms changed finished placed line_table.placed planned linked linked_map expanded_within expanded plus_terms settled_sections laid_by rows_of levels_of top shifts_of shifts_from shift_behind size_at shift_in section_size address_of final_told laid_value held_value told_in_field told_beside first_fault object_fault fields_fault section_bytes interleaved filled reference_found field_relocation named_of listed symbol_kind symbol_size said_along table_of image_of image_with file_with with_names all_names before_names file_of elf_header null_header header_table half word xword section_names string_table_of name_offsets symbol_names symbol_table_of first_of final_form told head turn steps word_in word_of the_words conditional branch_end conditional_end repeat each_copy_of define call purge after_call exit include verdict holds depth_behind stops cut made_statements value_text parameter_of parameters_of filled_once call_arguments argument_named put_by put_from file_statements value_told definition_told meant_among is_defined_in
 object_rows = (refl, refl, refl, refl, refl, refl, refl, refl, refl, refl)

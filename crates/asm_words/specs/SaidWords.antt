@@ -11,4 +11,6 @@ words_in words = record {
   flags = option_map (λ letters. letters.items) words.flags;
   kind = option_map (λ name. name.items) words.kind;
   entry_size = option_map tree_of words.entry_size;
+  signature = words.signature;
+  linkage = option_map (λ word. word.items) words.linkage;
 }

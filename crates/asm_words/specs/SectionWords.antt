@@ -1,4 +1,5 @@
--- The operands of `.section` (GNU as manual, ".section", ELF version): a name, the letters of flags, a type, and the size of entries.
+-- The operands of `.section` (GNU as manual, ".section", ELF version): a name, the letters of flags, a type, the size of entries, and the signature of a group
+-- with a word on what a linker keeps of it.
 use Rattle.std.specs.Prelude.{ℕ, ◌+◌, ◌==◌, ◌&&◌, ◌||◌, Bool, true, false, List, [], ◌∷◌, flat_map, length, codes, Option, None, Some, Result, Ok, Err, if◌then◌else◌}
 use Rattle.std.specs.List.{list_all, list_any}
 use Rattle.std.specs.Str.{bytes_eq}
@@ -9,7 +10,7 @@ use Rattle.asm_base.specs.declared.tokens.TokenKind.TheVariants.{Name, Digits}
 use Rattle.asm_base.specs.Tokens.{SpelledToken}
 use Rattle.asm_expr.specs.Trees.{Tree}
 use Rattle.asm_base.specs.Refusals.{◌>>=◌}
-use Rattle.asm_operands.specs.Operands.{is_name, is_mark, checked_name, string_of, needed}
+use Rattle.asm_operands.specs.Operands.{is_name, is_mark, is_dot, checked_name, symbol_name, string_of, needed}
 use Rattle.asm_operands.specs.Expressions.{expression_of, no_more}
 
 -- the second token stands right behind the first
@@ -64,12 +65,29 @@ abbrev pub expression_if : Bool → List (List SpelledToken) → Result (Option 
 expression_if true operands = missing_or expression_of operands
 expression_if false operands = Ok (None, operands)
 
--- what `.section` says
+-- the same, where one may stand
+abbrev pub operand_if : {A : Type 0} → (List SpelledToken → Result A PlaceCause) → Bool → List (List SpelledToken) → Result (Option A × List (List SpelledToken)) PlaceCause
+operand_if give true operands = missing_or give operands
+operand_if give false operands = Ok (None, operands)
+
+-- the signature of a group: the name of a symbol, which `.` without quotes is not
+unfoldable pub signature_of : List SpelledToken → Result (List ℕ) PlaceCause
+signature_of (token ∷ []) = if is_dot token then Err BadOperand else symbol_name token
+signature_of _ = Err BadOperand
+
+-- a word: one name
+unfoldable pub word_of : List SpelledToken → Result (List ℕ) PlaceCause
+word_of (token ∷ []) = if is_name token then Ok token.bytes else Err BadOperand
+word_of _ = Err BadOperand
+
+-- what `.section` says; the linkage is the word behind the signature
 pub record SectionWords : Type 0 where
   pub name : List ℕ
   pub flags : Option (List ℕ)
   pub kind : Option (List ℕ)
   pub entry_size : Option Tree
+  pub signature : Option (List ℕ)
+  pub linkage : Option (List ℕ)
 
 -- the letters of the flags have this one
 abbrev pub has_letter : ℕ → List ℕ → Bool
@@ -80,25 +98,48 @@ abbrev pub says_merge : Option (List ℕ) → Bool
 says_merge None = false
 says_merge (Some letters) = has_letter 77 letters
 
+-- `G`: the section is in a group
+abbrev pub says_grouped : Option (List ℕ) → Bool
+says_grouped None = false
+says_grouped (Some letters) = has_letter 71 letters
+
 -- the operands of `.section`, from left to right
 unfoldable pub section_words : List (List SpelledToken) → Result SectionWords PlaceCause
 section_words operands =
     needed section_name operands >>= λ name. missing_or string_of name.1 >>= λ flags. missing_or type_name flags.1 >>= λ kind.
-    expression_if (says_merge flags.0) kind.1 >>= λ size.
-    no_more size.1 (record { name = name.0; flags = flags.0; kind = kind.0; entry_size = size.0 })
+    expression_if (says_merge flags.0) kind.1 >>= λ size. operand_if signature_of (says_grouped flags.0) size.1 >>= λ signature.
+    operand_if word_of (says_grouped flags.0) signature.1 >>= λ linkage.
+    no_more linkage.1 (record { name = name.0; flags = flags.0; kind = kind.0; entry_size = size.0; signature = signature.0; linkage = linkage.0 })
+
+-- whether a linker keeps one alone of the groups of a signature with this word behind it, which can only be `comdat`
+abbrev pub comdat_by : Option (List ℕ) → Result Bool PlaceCause
+comdat_by None = Ok false
+comdat_by (Some word) = if bytes_eq word (codes "comdat") then Ok true else Err BadSection
+
+-- the group that the words say, by its signature, and whether a linker keeps one alone of that: with `G` the signature has to be there
+abbrev pub group_by : Bool → Option (List ℕ) → Option (List ℕ) → Result (Option (List ℕ × Bool)) PlaceCause
+group_by false signature linkage = Ok None
+group_by true None linkage = Err BadSection
+group_by true (Some signature) linkage = comdat_by linkage >>= λ comdat. Ok (Some (signature, comdat))
+
+-- the same of all words
+abbrev pub said_group : SectionWords → Result (Option (List ℕ × Bool)) PlaceCause
+said_group words = group_by (says_grouped words.flags) words.signature words.linkage
 
 -- `sh_flags` that a letter asks for (gABI, chapter 4, "sh_flags")
 abbrev pub flag_if : ℕ → ℕ → List ℕ → ℕ
 flag_if letter flag letters = if has_letter letter letters then flag else 0
 
--- `a`, `w`, `x`, `M`, `S`, `T`
+-- `a`, `w`, `x`, `M`, `S`, `G`, `T`
 abbrev pub is_flag_letter : ℕ → Bool
-is_flag_letter byte = (byte == 97) || (byte == 119) || (byte == 120) || (byte == 77) || (byte == 83) || (byte == 84)
+is_flag_letter byte = (byte == 97) || (byte == 119) || (byte == 120) || (byte == 77) || (byte == 83) || (byte == 71)
+    || (byte == 84)
 
 -- `sh_flags` of the letters
 unfoldable pub letter_flags : List ℕ → ℕ
 letter_flags letters =
-    flag_if 119 1 letters + flag_if 97 2 letters + flag_if 120 4 letters + flag_if 77 16 letters + flag_if 83 32 letters + flag_if 84 1024 letters
+    flag_if 119 1 letters + flag_if 97 2 letters + flag_if 120 4 letters + flag_if 77 16 letters + flag_if 83 32 letters
+    + flag_if 71 512 letters + flag_if 84 1024 letters
 
 -- the flags that the letters ask for; another letter is no flag
 unfoldable pub said_flags : List ℕ → Result ℕ PlaceCause

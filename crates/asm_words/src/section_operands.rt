@@ -11,13 +11,13 @@ ghost use Rattle.asm_words.specs.SectionWords as spec;
 ghost use Rattle.asm_words.specs.SaidWords.{words_in};
 
 use asm_base::{Token, TokenKind};
-use asm_expr::Expr;
+use asm_expr::{Expr, Spelling};
 use asm_frags::{
     SHT_FINI_ARRAY, SHT_INIT_ARRAY, SHT_NOBITS, SHT_NOTE, SHT_PREINIT_ARRAY, SHT_PROGBITS,
 };
 use asm_operands::{
-    Operands, PlaceCause, PlaceFault, checked_name, expression_of, is_mark, is_name, no_more,
-    string_of,
+    Operands, PlaceCause, PlaceFault, checked_name, expression_of, is_dot, is_mark, is_name,
+    no_more, string_of, symbol_name,
 };
 use std::alloc::Global;
 
@@ -30,6 +30,10 @@ pub struct SectionWords {
     /// The name of the type.
     pub kind: Option<Vec<u8>>,
     pub entry_size: Option<Expr>,
+    /// The signature of the group.
+    pub signature: Option<Spelling>,
+    /// The word behind the signature.
+    pub linkage: Option<Vec<u8>>,
 }
 
 /// Whether the second token stands right behind the first.
@@ -173,6 +177,70 @@ fn expression_if(
     }
 }
 
+/// The name of a symbol, which `.` without quotes is not.
+#[tactic(auto, unfolding(crate::specs::SectionWords::signature_of))]
+fn signature_of(alloc: Global, operand: &[Token]) -> Result<Spelling, PlaceFault>
+    ensures { GivesBy (λ name. name) result (spec.signature_of (map spelled operand.now)) }
+{
+    match operand {
+        [token] if !is_dot(token) => symbol_name(alloc, token),
+        _ => Err(PlaceFault::Fault(PlaceCause::BadOperand)),
+    }
+}
+
+/// The next operand, which is a signature unless it is missing, where one may stand.
+fn signature_if(
+    alloc: Global,
+    may: bool,
+    operands: &mut Operands,
+) -> Result<Option<Spelling>, PlaceFault>
+    ensures { Takes (λ name. name) (spec.operand_if spec.signature_of may)
+        operands.old operands.new result }
+{
+    if !may {
+        return Ok(None);
+    }
+    match operands.next() {
+        None => Ok(None),
+        Some(operand) => Ok(Some(signature_of(alloc, operand)?)),
+    }
+}
+
+/// One name.
+#[tactic(auto, unfolding(crate::specs::SectionWords::word_of))]
+fn word_of(alloc: Global, operand: &[Token]) -> Result<Vec<u8>, PlaceFault>
+    ensures { GivesBy (λ word. word.items) result (spec.word_of (map spelled operand.now)) }
+{
+    match operand {
+        [token] if is_name(token) => Ok(Vec::from_slice(alloc, token.bytes)?),
+        _ => Err(PlaceFault::Fault(PlaceCause::BadOperand)),
+    }
+}
+
+/// The next operand, which is a word unless it is missing, where one may stand.
+fn word_if(alloc: Global, may: bool, operands: &mut Operands) -> Result<Option<Vec<u8>>, PlaceFault>
+    ensures { Takes (option_map (λ word. word.items)) (spec.operand_if spec.word_of may)
+        operands.old operands.new result }
+{
+    if !may {
+        return Ok(None);
+    }
+    match operands.next() {
+        None => Ok(None),
+        Some(operand) => Ok(Some(word_of(alloc, operand)?)),
+    }
+}
+
+/// Whether the letters say that the section is in a group.
+fn says_grouped(letters: &Option<Vec<u8>>) -> bool
+    ensures { result ≡ spec.says_grouped (option_map (λ letters. letters.items) letters.now) }
+{
+    match letters {
+        Some(letters) => letters.contains(&b'G'),
+        None => false,
+    }
+}
+
 /// Whether the letters say that the section may be merged.
 pub fn says_merge(letters: &Option<Vec<u8>>) -> bool
     ensures { result ≡ spec.says_merge (option_map (λ letters. letters.items) letters.now) }
@@ -192,6 +260,9 @@ pub fn section_words(alloc: Global, operands: &mut Operands) -> Result<SectionWo
     let flags = string_if(alloc, operands)?;
     let kind = type_if(alloc, operands)?;
     let entry_size = expression_if(alloc, says_merge(&flags), operands)?;
+    let in_group = says_grouped(&flags);
+    let signature = signature_if(alloc, in_group, operands)?;
+    let linkage = word_if(alloc, in_group, operands)?;
     no_more(
         operands,
         SectionWords {
@@ -199,15 +270,43 @@ pub fn section_words(alloc: Global, operands: &mut Operands) -> Result<SectionWo
             flags,
             kind,
             entry_size,
+            signature,
+            linkage,
         },
     )
+}
+
+/// Whether a linker keeps one alone of the groups of a signature with this word behind it.
+fn comdat_by(linkage: &Option<Vec<u8>>) -> Result<bool, PlaceFault>
+    ensures { GivesBy (λ comdat. comdat) result
+        (spec.comdat_by (option_map (λ word. word.items) linkage.now)) }
+{
+    match linkage {
+        None => Ok(false),
+        Some(word) if word.as_slice() == b"comdat".as_slice() => Ok(true),
+        Some(_) => Err(PlaceFault::Fault(PlaceCause::BadSection)),
+    }
+}
+
+/// The group that the words say, by its signature, and whether a linker keeps one alone of that.
+pub fn said_group(words: &SectionWords) -> Result<Option<(&Spelling, bool)>, PlaceFault>
+    ensures { GivesBy (option_map (λ group. (group.0.now, group.1))) result
+        (spec.said_group (words_in words.now)) }
+{
+    if !says_grouped(&words.flags) {
+        return Ok(None);
+    }
+    match &words.signature {
+        Some(signature) => Ok(Some((signature, comdat_by(&words.linkage)?))),
+        None => Err(PlaceFault::Fault(PlaceCause::BadSection)),
+    }
 }
 
 /// Whether the byte is the letter of a flag.
 fn is_flag_letter(byte: u8) -> bool
     ensures { result ≡ spec.is_flag_letter byte }
 {
-    matches!(byte, b'a' | b'w' | b'x' | b'M' | b'S' | b'T')
+    matches!(byte, b'a' | b'w' | b'x' | b'M' | b'S' | b'G' | b'T')
 }
 
 /// The flag that a letter asks for, if the letters have it.
@@ -228,6 +327,7 @@ fn letter_flags(letters: &[u8]) -> u64
         + flag_if(b'x', 4, letters)
         + flag_if(b'M', 0x10, letters)
         + flag_if(b'S', 0x20, letters)
+        + flag_if(b'G', 0x200, letters)
         + flag_if(b'T', 0x400, letters)
 }
 

@@ -4,6 +4,7 @@ use Rattle.std.specs.Prelude.{IsSomeAnd, codes}
 use Rattle.std.specs.List.{slice_get}
 use Rattle.asm_base.specs.declared.causes.FragCause.{FragCause}
 use Rattle.asm_base.specs.declared.causes.FragCause.TheVariants.{BadSection}
+use Rattle.asm_frags.specs.Groups.{counted}
 use Rattle.asm_frags.specs.SectionOf.{section_number}
 use Rattle.asm_frags.specs.Sections.{section_flags, entered, entered_by}
 use Rattle.asm_frags.specs.Writing.{LooseSection, takes_zeros_alone}
@@ -24,7 +25,7 @@ module _ (old new : List LooseSection) (number : ℕ) where
 
   added : section_number (codes ".eh_frame") old ≡ None → entered old (codes ".eh_frame") (section_flags 2) 1 0 ≡ Ok (number, new)
       → (number ≡ length old) × (new ≡ old ++ new_table ∷ [])
-  added none is = by_room (nat_lt (length old) 30003)
+  added none is = by_room (nat_lt (counted old + 0) 30003)
       (sym (ap (λ found. entered_by old found (codes ".eh_frame") (section_flags 2) 1 0) none) ∙ is)
 
   pub table_added : section_number (codes ".eh_frame") old ≡ None → entered old (codes ".eh_frame") (section_flags 2) 1 0 ≡ Ok (number, new) → new ≡ old ++ new_table ∷ []

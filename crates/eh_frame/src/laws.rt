@@ -82,7 +82,7 @@ pub fn tables_are_found()
 }
 
 /// A table brings at most one section, `.eh_frame`, and symbols whose names take no bytes; sections keep their
-/// names, and files stay.
+/// names and types, and groups and files stay.
 pub fn tables_add_little()
     ensures { TablesAddLittle }
 {

@@ -92,7 +92,7 @@ fn new_table(alloc: Global, sections: &mut Sections) -> Result<u32, FragFault>
     ensures memory { IfErr result (λ fault. fault ≡ NoMemory) }
 {
     let name = Text::new(Vec::from_slice(alloc, NAME)?);
-    match sections.enter(name, SectionFlags::ALLOC, SHT_PROGBITS, 0) {
+    match sections.enter(name, SectionFlags::ALLOC, SHT_PROGBITS, 0, None) {
         Ok(number) => Ok(number),
         Err(_) => Err(FragFault::NoMemory),
     }

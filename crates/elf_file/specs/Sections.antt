@@ -1,5 +1,5 @@
 -- Sections and their headers (gABI, chapter 4, "Sections").
-use Rattle.std.specs.Prelude.{ℕ, List, [], ◌++◌, length, map, codes}
+use Rattle.std.specs.Prelude.{ℕ, ◌+◌, List, [], ◌++◌, length, map, flat_map, bit_and, Bool, codes, if◌then◌else◌}
 use Rattle.elf_file.specs.Fields.{word, xword}
 
 -- SHT_NOBITS: the section takes no bytes in the file (gABI, chapter 4, "Sections")
@@ -38,12 +38,34 @@ section_header name offset s =
     word name ++ word s.kind ++ xword s.flags ++ xword 0 ++ xword offset ++ xword (content_size s.content)
     ++ word s.link ++ word s.info ++ xword s.alignment ++ xword s.entry_size
 
--- the relocations of the section of this name and index (SHT_RELA, SHF_INFO_LINK), with the index of the symbol table
-abbrev pub relocation_section : ℕ → ℕ → List ℕ → List ℕ → SectionEntry
-relocation_section symbols index name bytes = record {
+-- a group of sections (SHT_GROUP), with the index of the symbol table and the number there of its signature's symbol (gABI, chapter 4, "Section Groups")
+abbrev pub group_section : ℕ → ℕ → List ℕ → SectionEntry
+group_section symbols signature bytes = record {
+  name = codes ".group";
+  kind = 17;
+  flags = 0;
+  alignment = 4;
+  entry_size = 4;
+  link = symbols;
+  info = signature;
+  content = stored bytes;
+}
+
+-- the words of a group: GRP_COMDAT, where a linker keeps one alone of the groups of a signature, or none, and the indices of its sections
+abbrev pub group_bytes : Bool → List ℕ → List ℕ
+group_bytes comdat members = word (if comdat then 1 else 0) ++ flat_map word members
+
+-- SHF_GROUP: the section is in a group
+abbrev pub in_group : ℕ
+in_group = 0x200
+
+-- the relocations of the section of these flags, this name and this index (SHT_RELA, SHF_INFO_LINK), with the index of the symbol table; they are in its group,
+-- if it is in one
+abbrev pub relocation_section : ℕ → ℕ → ℕ → List ℕ → List ℕ → SectionEntry
+relocation_section flags symbols index name bytes = record {
   name = codes ".rela" ++ name;
   kind = 4;
-  flags = 0x40;
+  flags = 0x40 + bit_and flags in_group;
   alignment = 8;
   entry_size = 24;
   link = symbols;

@@ -21,6 +21,8 @@ pub use reader::{
     HeaderTable, RelocationRecord, SectionHeader, SymbolRecord, header_table, relocation_at,
     section_bytes, section_header, section_name, section_named, symbol_at, text_at,
 };
-pub use sections::{Body, FileSection, relocation_section, string_section, symbol_section};
+pub use sections::{
+    Body, FileSection, group_section, relocation_section, string_section, symbol_section,
+};
 pub use string_table::put_name;
 pub use table_entries::{elf_relocation, elf_symbol};

@@ -17,11 +17,17 @@ const SHT_SYMTAB: u32 = 2;
 /// `sh_type` of a string table.
 const SHT_STRTAB: u32 = 3;
 
+/// `sh_type` of a group of sections.
+const SHT_GROUP: u32 = 17;
+
 /// `sh_type` of relocations with addends.
 const SHT_RELA: u32 = 4;
 
 /// `sh_flags`: `sh_info` is the index of a header.
 const SHF_INFO_LINK: u64 = 0x40;
+
+/// `sh_flags`: the section is in a group.
+const SHF_GROUP: u64 = 0x200;
 
 /// What a section holds.
 #[derive(Drop)]
@@ -81,21 +87,43 @@ pub(crate) fn section_header(name: usize, offset: u64, size: u64, section: &File
     header
 }
 
-/// The section of the relocations of the section of this name and index, with the index of the symbol table.
+/// The section of a group, with the index of the symbol table and the number there of its signature's
+/// symbol.
 #[tactic(auto, unfolding(crate::specs::Views::section_view))]
+pub fn group_section<'a>(symbols: usize, signature: usize, bytes: Vec<u8>) -> FileSection<'a>
+    ensures { section_view result ≡ spec.group_section symbols signature bytes.items }
+{
+    FileSection {
+        prefix: b".group",
+        name: b"",
+        kind: SHT_GROUP,
+        flags: 0,
+        alignment: 4,
+        entry_size: 4,
+        link: symbols as u64,
+        info: signature as u64,
+        body: Body::Bytes(bytes),
+    }
+}
+
+/// The section of the relocations of the section of these flags, this name and this index, with the
+/// index of the symbol table; they are in its group, if it is in one.
+#[tactic(auto, unfolding(crate::specs::Views::section_view), using(std::proofs::lemmas::Nat::and_le_r))]
 pub fn relocation_section(
+    flags: u64,
     symbols: usize,
     index: usize,
     name: &[u8],
     bytes: Vec<u8>,
 ) -> FileSection<'_>
-    ensures { section_view result ≡ spec.relocation_section symbols index name.now bytes.items }
+    ensures { section_view result ≡ spec.relocation_section flags symbols index name.now
+        bytes.items }
 {
     FileSection {
         prefix: b".rela",
         name,
         kind: SHT_RELA,
-        flags: SHF_INFO_LINK,
+        flags: SHF_INFO_LINK + (flags & SHF_GROUP),
         alignment: 8,
         entry_size: RELA_SIZE as u64,
         link: symbols as u64,

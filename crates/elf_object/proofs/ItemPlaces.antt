@@ -4,7 +4,7 @@ use Rattle.std.proofs.Math.Dec.{eqb-suc-zero}
 use Rattle.std.proofs.Math.Nat.{mod-eq_of_lt}
 use Rattle.std.proofs.lemmas.List.{length-map}
 use Rattle.std.proofs.lemmas.List.Elements.{All-head, All-tail}
-use Rattle.std.proofs.lemmas.Option.{slice_get-map}
+use Rattle.std.proofs.lemmas.Option.{slice_get-map, slice_get_within}
 use Rattle.std.specs.Prelude.{All, take, slice_get, slice_index_or, option_map, unwrap_or, codes}
 use Rattle.asm_expr.specs.Forms.{wrapped}
 use Rattle.asm_frags.specs.declared.fields.Field.{Field}
@@ -12,6 +12,8 @@ use Rattle.item_contents.specs.declared.contents.Content.{Content}
 use Rattle.item_contents.specs.Contents.{MayHave, bytes_of}
 use Rattle.asm_frags.specs.PlainBytes.{covered, field_end, FieldsStand}
 use Rattle.asm_frags.specs.SectionOf.{SectionOf}
+use Rattle.asm_frags.specs.declared.groups.Group.{Group}
+use Rattle.asm_frags.specs.Groups.{groups_of}
 use Rattle.asm_frags.specs.Addresses.{item_laid_at}
 use Rattle.asm_symbols.specs.SymbolMap.{SymbolMap}
 use Rattle.asm_relax.specs.FieldValues.{held_value}
@@ -28,7 +30,7 @@ use Rattle.elf_file.specs.Places.{PieceAt}
 use Rattle.elf_file.specs.FileLaws.{BodiesStand}
 use Rattle.elf_object.specs.Places.{section_offset, moved, IsBetween, IsFiled, BytesStand, ValuesStand, ItemsStand, PlacesAreAddresses}
 use Rattle.elf_file.specs.Sections.{SectionEntry, file_bytes, symbol_section, string_section}
-use Rattle.elf_object.specs.Sections.{source_section, with_relocations, header_count, next_header, entries_from, header_indices_from, header_indices}
+use Rattle.elf_object.specs.Sections.{source_section, with_relocations, header_count, next_header, entries_from, group_entries, first_header, header_indices_from, header_indices}
 use Rattle.elf_file.specs.StringTable.{string_table_of}
 use Rattle.elf_object.proofs.ItemBytes.{held_length, plain_long}
 use Rattle.elf_object.proofs.PlainPlaces.{piece_is, inside, plain_stands, value_stands, bytes_between, item_stands, placed_get}
@@ -86,9 +88,19 @@ pub found_long : (symbols : SymbolMap) (all : LaidSections) (number : ℕ) (sect
 found_long symbols all number [] = refl
 found_long symbols all number (s ∷ ss) = ap suc (found_long symbols all (number + 1) ss)
 
+-- each group has one header
+pub groups_long : (numbers : NumbersOf) (symbols : ℕ) (sections : LaidSections) (found : List (List Relocation)) (index : ℕ) (groups : List Group)
+    → length (group_entries numbers symbols sections found index groups) ≡ length groups
+groups_long numbers symbols sections found index [] = refl
+groups_long numbers symbols sections found index (group ∷ groups) = ap suc (groups_long numbers symbols sections found (index + 1) groups)
+
+past : {A : Type 0} (front xs : List A) (i : ℕ) → slice_get (front ++ xs) (length front + i) ≡ slice_get xs i
+past [] xs i = let same : 0 + i ≡ i = omega arith in ap (slice_get xs) same
+past (x ∷ front) xs i = let same : suc (length front) + i ≡ suc (length front + i) = omega arith in ap (slice_get (x ∷ (front ++ xs))) same ∙ past front xs i
+
 -- the section of a number stands among those of the file
 section_there : (symbols : SymbolMap) (sections : LaidSections) (number : ℕ) (section : SectionOf LaidItem) → slice_get sections number ≡ Some section
-    → slice_get (file_sections symbols sections (relocations_of symbols sections)) (slice_index_or (header_indices (relocations_of symbols sections)) number 0 - 1)
+    → slice_get (file_sections symbols sections (relocations_of symbols sections)) (slice_index_or (header_indices sections (relocations_of symbols sections)) number 0 - 1)
     ≡ Some (source_section symbols sections section)
 unfolding before_names
 section_there symbols sections number section is =
@@ -98,12 +110,24 @@ section_there symbols sections number section is =
     slice_get-map (source_section symbols sections) sections number ∙ ap (option_map (source_section symbols sections)) is in
     let named = named_of found (length symbols.symbols) in
     let table = table_of symbols sections named in
-    let tables = next_header 1 found in
-    let tail = symbol_section (tables + 1) (first_other symbols sections named) (symbol_table_of (header_indices found) table)
+    let first = first_header sections in
+    let tables = next_header first found in
+    let tail = symbol_section (tables + 1) (first_other symbols sections named) (symbol_table_of (header_indices sections found) table)
     ∷ string_section (codes ".strtab") (string_table_of (symbol_names table)) ∷ [] in
-    get_front (entries_from (numbers_of symbols sections named) tables 1 held found) tail (slice_index_or (header_indices found) number 0 - 1) (source_section symbols sections section)
-    (entry_there (numbers_of symbols sections named) tables 1 held found number (source_section symbols sections section) got
-    (length-map sections (source_section symbols sections) ∙ sym (found_long symbols sections 0 sections)))
+    let numbers = numbers_of symbols sections named in
+    let groups = group_entries numbers tables sections found 0 (groups_of sections) in
+    let entries = entries_from numbers tables first held found in
+    let own = source_section symbols sections section in
+    let index = slice_index_or (header_indices sections found) number 0 in
+    let within = slice_get_within sections number section is in
+    let long = found_long symbols sections 0 sections in
+    let inside : number < length found = omega (arith, within, long) in
+    let later : first ≤ index = index_behind first found number inside in
+    let count = groups_long numbers tables sections found 0 (groups_of sections) in
+    let place : index - 1 ≡ length groups + (index - first) = omega (arith, later, count) in
+    get_front (groups ++ entries) tail (index - 1) own
+    (ap (slice_get (groups ++ entries)) place ∙ past groups entries (index - first)
+    ∙ entry_there numbers tables first held found number own got (length-map sections (source_section symbols sections) ∙ sym long))
 
 -- the bytes of a section that takes bytes stand in the object
 section_stands : BodiesStand → (symbols : SymbolMap) (sections : LaidSections) (number : ℕ) (section : SectionOf LaidItem) → IsFiled sections number section
@@ -113,7 +137,7 @@ section_stands bodies symbols sections number section filed =
     let found = relocations_of symbols sections in
     let entry = source_section symbols sections section in
     let body : file_bytes entry.content ≡ section_bytes symbols sections section = rw filed.takes_bytes refl in
-    rw (← body) (bodies (file_sections symbols sections found) (slice_index_or (header_indices found) number 0 - 1) entry (section_there symbols sections number section filed.found))
+    rw (← body) (bodies (file_sections symbols sections found) (slice_index_or (header_indices sections found) number 0 - 1) entry (section_there symbols sections number section filed.found))
 
 -- the items of a laid out section have their addresses
 items_laid : (section : SectionOf LaidItem) → placed_section section ≡ section → placed_from 0 section.items ≡ section.items

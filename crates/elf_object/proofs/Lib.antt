@@ -1,5 +1,6 @@
 -- Lemmas, in reading order.
 mod LoopSteps
+mod GroupLemmas
 mod FieldLemmas
 mod ItemLemmas
 mod MarkLemmas

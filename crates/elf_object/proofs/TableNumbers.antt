@@ -13,9 +13,9 @@ use Rattle.elf_symbols.specs.declared.targets.Target.TheVariants.{OfSection, OfS
 use Rattle.elf_symbols.specs.declared.symbol_values.SymbolValue.{SymbolValue}
 use Rattle.elf_object.specs.Contents.{relocations_of}
 use Rattle.elf_object.specs.Naming.{same_target, is_named_by, is_named, is_thread_named, marks_from, named_of}
-use Rattle.elf_symbols.specs.Numbers.{section_numbers, standing_by, standing_of, symbol_numbers, first_section_symbol, first_local, first_other, numbers_of, target_number}
+use Rattle.elf_symbols.specs.Numbers.{section_numbers, symbol_numbers, first_section_symbol, first_local, first_other, numbers_of, target_number}
 use Rattle.elf_symbols.specs.SymbolValues.{symbol_value_of}
-use Rattle.elf_symbols.specs.SymbolTable.{SymbolEntry, is_local_entry, part, file_entry, section_entry, section_entries, entry_at, needs_naming, value_or_undefined, listed, listed_by, listed_all, table_of}
+use Rattle.elf_symbols.specs.SymbolTable.{SymbolEntry, is_local_entry, part, file_entry, section_entry, section_entries, entry_at, needs_naming, value_or_undefined, listed, listed_by, listed_all, table_of, standing_by, standing_of, own_signatures, is_named_by_group}
 use Rattle.elf_object.specs.TableLaws.{named_targets, IsEntryOf, TargetsStand}
 use Rattle.elf_object.proofs.ItemPlaces.{get_front, found_long}
 use Rattle.elf_object.proofs.Targets.{Sits, got_inside, all_sit}
@@ -148,11 +148,11 @@ listed_there : (map : SymbolMap) (sections : LaidSections) (thread : Bool) (symb
     → listed map sections true thread symbol ≡ Some (entry_at map sections thread symbol (stood map sections symbol))
 unfolding listed
 listed_there map sections thread symbol =
-    kept (needs_naming symbol (stood map sections symbol)) (entry_at map sections thread symbol (stood map sections symbol))
+    kept (needs_naming symbol (stood map sections symbol)) (is_named_by_group sections symbol (stood map sections symbol)) (entry_at map sections thread symbol (stood map sections symbol))
   where
-    kept : (needs : Bool) (entry : SymbolEntry) → cond (needs && not true) None (Some entry) ≡ Some entry
-    kept true entry = refl
-    kept false entry = refl
+    kept : (needs group : Bool) (entry : SymbolEntry) → cond (needs && not (true || group)) None (Some entry) ≡ Some entry
+    kept true group entry = refl
+    kept false group entry = refl
 
 section_stands : (symbols : SymbolMap) (sections : LaidSections) (n : ℕ) → n < length sections → is_named (relocations_of symbols sections) (OfSection n) ≡ true
     → IsEntryOf symbols sections (target_number (numbers_of symbols sections (named_targets symbols sections)) (OfSection n)) (OfSection n)
@@ -171,7 +171,12 @@ section_stands symbols sections n inside named =
     let base : first_section_symbol symbols ≡ 1 + length files = ap (λ m. 1 + m) (sym (length-map symbols.files file_entry)) in
     let all = listed_all symbols sections (named_targets symbols sections) in
     let (some, there) = behind_front files (section_entries 0 marks) (part true all) (first_section_symbol symbols) _ (section_entry n) base at in
-    (some, get_front ((files ++ section_entries 0 marks) ++ part true all) (part false all) _ (section_entry n) there)
+    let named_all = named_targets symbols sections in
+    let signatures = own_signatures symbols sections named_all in (
+      some,
+      get_front (((files ++ section_entries 0 marks) ++ part true all) ++ signatures) (part false all) _ (section_entry n)
+          (get_front ((files ++ section_entries 0 marks) ++ part true all) signatures _ (section_entry n) there),
+    )
 
 -- the numbers of local symbols, and of the others
 symbol_number : (symbols : SymbolMap) (sections : LaidSections) (i : ℕ) (entry : SymbolEntry) (bound : Bool) → is_local_entry entry ≡ bound
@@ -185,15 +190,18 @@ symbol_number symbols sections i entry true so there =
     let base : first_local symbols named ≡ 1 + length front =
     omega (arith, length-append (map file_entry symbols.files) (section_entries 0 named.sections), length-map symbols.files file_entry) in
     let at = locals_at all (first_local symbols named) (first_other symbols sections named) i entry there so in
-    let (some, stands) = behind_front front (part true all) (part false all) (first_local symbols named) _ entry base at in
-    (entry, there, some, stands)
+    let signatures = own_signatures symbols sections named in
+    let (some, stands) = behind_front front (part true all) signatures (first_local symbols named) _ entry base at in
+    (entry, there, some, get_front ((front ++ part true all) ++ signatures) (part false all) _ entry stands)
 symbol_number symbols sections i entry false so there =
     let named = named_targets symbols sections in
     let all = listed_all symbols sections named in
-    let front = (map file_entry symbols.files ++ section_entries 0 named.sections) ++ part true all in
+    let signatures = own_signatures symbols sections named in
+    let front = ((map file_entry symbols.files ++ section_entries 0 named.sections) ++ part true all) ++ signatures in
     let base : first_other symbols sections named ≡ 1 + length front =
     omega (
       arith,
+      length-append ((map file_entry symbols.files ++ section_entries 0 named.sections) ++ part true all) signatures,
       length-append (map file_entry symbols.files ++ section_entries 0 named.sections) (part true all),
       length-append (map file_entry symbols.files) (section_entries 0 named.sections),
       length-map symbols.files file_entry,

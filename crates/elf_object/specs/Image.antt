@@ -1,5 +1,6 @@
 -- The object file of sections and symbols (gABI, chapter 4; psABI for AMD64, chapter 4).
 use Rattle.std.specs.Prelude.{ℕ, ◌+◌, List, [], ◌∷◌, ◌++◌, length, map, codes}
+use Rattle.asm_frags.specs.Groups.{groups_of}
 use Rattle.asm_symbols.specs.SymbolMap.{SymbolMap}
 use Rattle.asm_relax.specs.Settling.{LaidSections}
 use Rattle.elf_file.specs.StringTable.{string_table_of}
@@ -11,15 +12,16 @@ use Rattle.elf_symbols.specs.Numbers.{numbers_of, first_other}
 use Rattle.elf_object.specs.declared.relocations.Relocation.{Relocation}
 use Rattle.elf_object.specs.Contents.{relocations_of}
 use Rattle.elf_object.specs.Naming.{named_of}
-use Rattle.elf_object.specs.Sections.{source_section, entries_from, header_indices, next_header}
+use Rattle.elf_object.specs.Sections.{source_section, entries_from, group_entries, first_header, header_indices, next_header}
 
--- the sections with their relocations, and behind them the symbol table and its names; relocations name what is marked
+-- groups, the sections with their relocations, and behind them the symbol table and its names; relocations name what is marked
 unfoldable pub before_names : SymbolMap → LaidSections → List (List Relocation) → NamedOf → List SectionEntry
 before_names symbols sections found named =
-    let tables = next_header 1 found in
+    let tables = next_header (first_header sections) found in
     let table = table_of symbols sections named in
-    entries_from (numbers_of symbols sections named) tables 1 (map (source_section symbols sections) sections) found
-    ++ symbol_section (tables + 1) (first_other symbols sections named) (symbol_table_of (header_indices found) table)
+    group_entries (numbers_of symbols sections named) tables sections found 0 (groups_of sections)
+    ++ entries_from (numbers_of symbols sections named) tables (first_header sections) (map (source_section symbols sections) sections) found
+    ++ symbol_section (tables + 1) (first_other symbols sections named) (symbol_table_of (header_indices sections found) table)
     ∷ string_section (codes ".strtab") (string_table_of (symbol_names table)) ∷ []
 
 -- the sections of the file up to the table of their names, where the sections of the source have these relocations

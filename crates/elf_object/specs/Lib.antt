@@ -4,6 +4,7 @@ pub mod Contents
 pub mod Faults
 pub mod Naming
 pub mod Sections
+pub mod GroupLists
 pub mod Image
 pub mod Limits
 pub mod Objects

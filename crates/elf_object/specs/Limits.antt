@@ -1,6 +1,7 @@
 -- What lets the numbers of an object fit their fields, as far as the program's own numbers do (gABI, chapter 4, "Data Representation").
 use Rattle.std.specs.Prelude.{◌^◌, ◌<◌, List, All, length}
 use Rattle.asm_frags.specs.Alignments.{alignment_of_all}
+use Rattle.asm_frags.specs.Groups.{IsFlagged}
 use Rattle.asm_frags.specs.SectionOf.{SectionOf}
 use Rattle.asm_symbols.specs.SymbolMap.{SymbolMap}
 use Rattle.asm_relax.specs.Settling.{LaidItem, LaidSections}
@@ -11,10 +12,11 @@ use Rattle.elf_object.specs.Contents.{relocations_of}
 use Rattle.elf_object.specs.Image.{image_with}
 use Rattle.elf_object.specs.Naming.{named_of}
 
--- each number of a section of the source fits its field, as those of the program do
+-- each number of a section of the source fits its field, as those of the program do; just those in a group have the flag for that
 pub record SourceFits (section : SectionOf LaidItem) : Type 0 where
   pub kind : section.kind < 2 ^ 32
   pub flags : section.flags.0 < 2 ^ 64
+  pub flagged : IsFlagged section
   pub alignment : alignment_of_all section.items < 2 ^ 64
   pub entry_size : section.entry_size < 2 ^ 64
 

@@ -18,7 +18,7 @@ use Rattle.elf_object.specs.Image.{file_sections, image_of}
 -- where the body of the section of this number stands in the file; the header at index 0 is that of no section
 unfoldable pub section_offset : SymbolMap → LaidSections → ℕ → ℕ
 section_offset symbols sections number =
-    body_offset header_end (file_sections symbols sections (relocations_of symbols sections)) (slice_index_or (header_indices (relocations_of symbols sections)) number 0 - 1)
+    body_offset header_end (file_sections symbols sections (relocations_of symbols sections)) (slice_index_or (header_indices sections (relocations_of symbols sections)) number 0 - 1)
 
 -- where the plain byte at this offset stands in its section: so many items before it move it by their sizes
 abbrev pub moved : List LaidItem → ℕ → ℕ → ℕ

@@ -1,6 +1,8 @@
 -- What the types of the program stand for.
 use Rattle.std.specs.Prelude.{List}
 use Rattle.asm_frags.specs.Alignments.{alignment_of_all}
+use Rattle.asm_frags.specs.SectionOf.{SectionOf}
+use Rattle.asm_relax.specs.Settling.{LaidItem}
 use Rattle.elf_file.specs.Sections.{SectionEntry}
 use Rattle.elf_file.specs.Views.{content_view}
 use Rattle.elf_object.specs.declared.contents.HeldSection.{HeldSection}
@@ -18,6 +20,10 @@ held_entry held = record {
   info = 0;
   content = content_view held.body;
 }
+
+-- the section of the source
+abbrev pub source_of : HeldSection → SectionOf LaidItem
+source_of held = held.source.now
 
 -- the relocations of a section of the source
 abbrev pub relocations_in : HeldSection → List Relocation

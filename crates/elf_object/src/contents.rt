@@ -4,6 +4,7 @@
 ghost use Rattle.std.specs.Prelude.{◌≡◌, ℕ, List, ◌+◌, ◌≤◌, [], ◌++◌, None, false, All, drop, filter_map, length, map, replicate, slice_range, take, unwrap_or, IfErr, IfOk, OnOk};
 ghost use Rattle.std.specs.Option.{option_to_list};
 ghost use Rattle.asm_frags.specs.Fields.{low_bytes, width};
+ghost use Rattle.asm_frags.specs.Groups.{IsFlagged};
 ghost use Rattle.asm_frags.specs.PlainBytes.{field_end};
 ghost use Rattle.elf_object.specs.Contents as spec;
 ghost use Rattle.elf_object.specs.Faults.{IsDue, IsLostAt, fields_fault, field_fault_in, field_fault_from};
@@ -12,7 +13,7 @@ ghost use Rattle.elf_object.specs.Relocations.{field_relocation};
 ghost use Rattle.elf_file.specs.Sections.{stored};
 ghost use Rattle.elf_object.specs.Sections.{source_section};
 ghost use Rattle.elf_file.specs.Views.{content_view};
-ghost use Rattle.elf_object.specs.Views.{held_entry, relocations_in};
+ghost use Rattle.elf_object.specs.Views.{held_entry, relocations_in, source_of};
 
 use crate::faults::{ObjectCause, ObjectFault};
 use crate::mixing::Mixing;
@@ -212,6 +213,7 @@ fn held_section<'a>(
 ) -> Result<HeldSection<'a>, ObjectFault>
     ensures entry { IfOk result (λ held. held_entry held
         ≡ source_section at.entry.symbols.now at.entry.sections.now section.now) }
+    ensures source { IfOk result (λ held. source_of held ≡ section.now) }
     ensures relocations { IfOk result (λ held. relocations_in held
         ≡ spec.section_relocations at.entry.symbols.now at.entry.sections.now number section.now) }
     ensures whole { OnOk result (field_fault_in at.entry.symbols.now at.entry.sections.now number
@@ -247,6 +249,9 @@ pub(crate) fn held_sections<'a>(
 ) -> Result<Vec<HeldSection<'a>>, ObjectFault>
     ensures entries { IfOk result (λ held. map held_entry held.items
         ≡ map (source_section at.entry.symbols.now at.entry.sections.now) at.entry.sections.now) }
+    ensures flagged { OnOk result (All IsFlagged at.entry.sections.now) }
+    ensures sources { IfOk result (λ held. map source_of held.items
+        ≡ at.entry.sections.now) }
     ensures relocations { IfOk result (λ held. map relocations_in held.items
         ≡ spec.relocations_of at.entry.symbols.now at.entry.sections.now) }
     ensures whole { OnOk result (field_fault_from at.entry.symbols.now at.entry.sections.now 0

@@ -1,19 +1,20 @@
 //! The object of sections and symbols.
 
-ghost use Rattle.std.specs.Prelude.{◌≡◌, map, IfOk, OnOk};
+ghost use Rattle.std.specs.Prelude.{◌≡◌, All, map, IfOk, OnOk};
+ghost use Rattle.asm_frags.specs.Groups.{IsFlagged};
 ghost use Rattle.asm_base.specs.Refusals.{Returns};
 ghost use Rattle.assigned_forms.specs.Expanding.{AreExpansions};
 ghost use Rattle.elf_object.specs.Image.{image_with};
 ghost use Rattle.elf_object.specs.Limits.{NumbersFit, NumbersFitWith};
 ghost use Rattle.elf_object.specs.Objects.{object_of};
 ghost use Rattle.elf_object.specs.Sections.{source_section};
-ghost use Rattle.elf_object.specs.Views.{held_entry, relocations_in};
+ghost use Rattle.elf_object.specs.Views.{held_entry, relocations_in, source_of};
 
 use crate::contents::{HeldSection, held_sections};
 use crate::faults::ObjectFault;
 use crate::naming::named_by;
 use crate::searching::{size_fault, undefined_fault};
-use crate::sections::{file_sections, headers_of};
+use crate::sections::{first_header, group_sections, headers_of, put_sections};
 use asm_base::{Failed, NoMemory, Output};
 use asm_frags::{Laid, Sections};
 use asm_symbols::Symbols;
@@ -48,6 +49,8 @@ fn image<'a>(
     requires expanded { AreExpansions at.symbols.now expansions.now }
     requires entries { map held_entry held.items
         ≡ map (source_section at.symbols.now at.sections.now) at.sections.now }
+    requires flagged { All IsFlagged at.sections.now }
+    requires sources { map source_of held.items ≡ at.sections.now }
     ensures file { IfOk result (λ f. f
         ≡ image_with at.entry.symbols.now at.entry.sections.now (map relocations_in
         held.entry.items)) }
@@ -55,10 +58,13 @@ fn image<'a>(
         (map relocations_in held.entry.items)) }
 {
     let named = named_by(alloc, &held, at.symbols.len())?;
-    let headers = headers_of(alloc, &held)?;
+    let first = first_header(at.sections);
+    let headers = headers_of(alloc, first, &held)?;
     let listing = list_symbols(alloc, at, expansions, &named)?;
     let table = symbol_table(alloc, &headers.indices, &listing.symbols)?;
-    let mut sections = file_sections(alloc, &listing.numbers, headers.next, held)?;
+    let numbers = &listing.numbers;
+    let mut sections = group_sections(alloc, numbers, headers.next, first, at.sections, &held)?;
+    put_sections(alloc, numbers, headers.next, first, held, &mut sections)?;
     sections.push(symbol_section(headers.next + 1, listing.first_other, table.entries))?;
     sections.push(string_section(b".strtab", table.strings))?;
     laid_file(alloc, sections)

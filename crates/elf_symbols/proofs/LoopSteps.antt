@@ -1,13 +1,14 @@
 -- Loops over lists that put what they make of each element behind what they have.
-use Rattle.std.proofs.Common.{◌≡◌, ℕ, ◌+◌, ◌<◌, ◌≤◌, Bool, true, false, cond, List, [], ◌∷◌, ◌++◌, length, get_or, drop, map, Option, None, Some, All, refl, sym, ap, subst, ◌∙◌, append-nil, append_assoc}
+use Rattle.std.proofs.Common.{◌≡◌, ℕ, zero, suc, add-one, slice_get, ◌+◌, ◌<◌, ◌≤◌, Bool, true, false, cond, List, [], ◌∷◌, ◌++◌, length, get_or, drop, map, Option, None, Some, All, refl, sym, ap, subst, ◌∙◌, append-nil, append_assoc}
 use Rattle.std.proofs.lemmas.List.{at_drop_all, at_drop_more}
 use Rattle.std.proofs.lemmas.List.Elements.{All-cons}
 use Rattle.asm_symbols.specs.declared.entries.Symbol.{Symbol}
 use Rattle.asm_symbols.specs.SymbolMap.{SymbolMap}
 use Rattle.asm_relax.specs.Settling.{LaidSections}
 use Rattle.elf_symbols.specs.declared.numbers.Standing.{Standing}
-use Rattle.elf_symbols.specs.Numbers.{standing_of}
-use Rattle.elf_symbols.specs.SymbolTable.{SymbolEntry, is_bound, part, PutsPart, listed, listed_by}
+use Rattle.asm_frags.specs.declared.groups.Group.{Group}
+use Rattle.elf_symbols.specs.Numbers.{signature_number, number_if, next_if, group_numbers}
+use Rattle.elf_symbols.specs.SymbolTable.{SymbolEntry, is_bound, part, PutsPart, listed, listed_by, standing_of, is_signature_listed, signature_if, signature_entries}
 
 -- what is left begins with the element
 pub next_is : {X Y : Type 0} (f : List X → Y) (xs : List X) (i : ℕ) (x : X) → i < length xs → x ≡ get_or xs i x → f (drop i xs) ≡ f (x ∷ drop (i + 1) xs)
@@ -65,3 +66,34 @@ pub holds_next : {X Y : Type 0} (view : X → Y) (P : Y → Type 0) (xs : List X
 holds_next view P xs i d inside one before later =
     before (subst (λ (rest : List _). All P (map view rest)) (sym (at_drop_more (λ rest. rest) xs i d inside))
     (All-cons P (view (get_or xs i d)) (map view (drop (i + 1) xs)) one later))
+
+-- what is left of groups begins with the one of the index
+group_left : (groups : List Group) (index : ℕ) (group : Group) → slice_get groups index ≡ Some group → drop index groups ≡ group ∷ drop (suc index) groups
+group_left [] index group is = absurd cc
+group_left (g ∷ groups) zero group is = let same : g ≡ group = cc in ap (λ one. one ∷ groups) same
+group_left (g ∷ groups) (suc index) group is = group_left groups index group is
+
+-- the entry of one more signature is put last
+pub signature_put : (symbols : SymbolMap) (all : List Standing) (groups : List Group) (index : ℕ) (signature : List ℕ) (comdat : Bool) (out more whole : List SymbolEntry)
+    → slice_get groups index ≡ Some (record { signature = signature; comdat = comdat }) → more ≡ out ++ signature_if symbols all index signature
+    → out ++ signature_entries symbols all index (drop index groups) ≡ whole → more ++ signature_entries symbols all (index + 1) (drop (index + 1) groups) ≡ whole
+signature_put symbols all groups index signature comdat out more whole is put before =
+    let group : Group = record { signature = signature; comdat = comdat } in
+    let left : drop index groups ≡ group ∷ drop (index + 1) groups = group_left groups index group is ∙ ap (λ n. group ∷ drop n groups) (sym (add-one index)) in
+    ap (λ xs. xs ++ signature_entries symbols all (index + 1) (drop (index + 1) groups)) put
+    ∙ append_assoc out (signature_if symbols all index signature) (signature_entries symbols all (index + 1) (drop (index + 1) groups))
+    ∙ ap (λ gs. out ++ signature_entries symbols all index gs) (sym left) ∙ before
+
+-- the number of one more signature is pushed
+pub number_put : (symbols : SymbolMap) (all : List Standing) (numbers : List ℕ) (next after number : ℕ) (groups : List Group) (index : ℕ) (signature : List ℕ) (comdat : Bool) (made more whole : List ℕ)
+    → slice_get groups index ≡ Some (record { signature = signature; comdat = comdat }) → number ≡ number_if (is_signature_listed symbols all signature) (signature_number symbols numbers signature) next
+    → after ≡ next_if (is_signature_listed symbols all signature) next → more ≡ made ++ number ∷ []
+    → made ++ group_numbers symbols all numbers next (drop index groups) ≡ whole → more ++ group_numbers symbols all numbers after (drop (index + 1) groups) ≡ whole
+number_put symbols all numbers next after number groups index signature comdat made more whole is own behind put before =
+    let group : Group = record { signature = signature; comdat = comdat } in
+    let left : drop index groups ≡ group ∷ drop (index + 1) groups = group_left groups index group is ∙ ap (λ n. group ∷ drop n groups) (sym (add-one index)) in
+    ap (λ xs. xs ++ group_numbers symbols all numbers after (drop (index + 1) groups)) put
+    ∙ append_assoc made (number ∷ []) (group_numbers symbols all numbers after (drop (index + 1) groups))
+    ∙ ap (λ n. made ++ (n ∷ group_numbers symbols all numbers after (drop (index + 1) groups))) own
+    ∙ ap (λ n. made ++ (number_if (is_signature_listed symbols all signature) (signature_number symbols numbers signature) next ∷ group_numbers symbols all numbers n (drop (index + 1) groups))) behind
+    ∙ ap (λ gs. made ++ group_numbers symbols all numbers next gs) (sym left) ∙ before

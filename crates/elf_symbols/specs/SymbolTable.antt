@@ -1,8 +1,11 @@
 -- The symbol table: which symbols stand in it, in which order, and what their entries say (gABI, chapter 4, "Symbol Table").
-use Rattle.std.specs.Prelude.{◌≡◌, ℕ, ◌+◌, ◌*◌, ◌&&◌, ◌||◌, not, Bool, true, false, List, [], ◌∷◌, ◌++◌, map, replicate, Option, None, Some, unwrap_or, slice_index_or, if◌then◌else◌}
+use Rattle.std.specs.Prelude.{◌≡◌, ℕ, ◌+◌, ◌*◌, ◌&&◌, ◌||◌, not, Bool, true, false, List, [], ◌∷◌, ◌++◌, map, replicate, Option, None, Some, unwrap_or, slice_get, slice_index_or, option_and_then, if◌then◌else◌}
+use Rattle.std.specs.List.{list_any}
 use Rattle.asm_expr.specs.declared.naming.Name.{Name}
 use Rattle.asm_expr.specs.declared.naming.Name.TheVariants.{Plain, Numeric, Place}
 use Rattle.asm_expr.specs.Forms.{Form}
+use Rattle.asm_frags.specs.declared.groups.Group.{Group}
+use Rattle.asm_frags.specs.Groups.{groups_of, has_signature}
 use Rattle.asm_symbols.specs.declared.entries.Symbol.{Symbol}
 use Rattle.asm_symbols.specs.declared.entries.Binding.{Binding}
 use Rattle.asm_symbols.specs.declared.entries.Binding.TheVariants.{Local, Global, Weak}
@@ -10,12 +13,14 @@ use Rattle.asm_symbols.specs.declared.entries.Kind.{Kind}
 use Rattle.asm_symbols.specs.declared.entries.Kind.TheVariants as said
 use Rattle.asm_symbols.specs.declared.entries.Visibility.{Visibility}
 use Rattle.asm_symbols.specs.declared.entries.Visibility.TheVariants.{Internal, Hidden, Protected}
-use Rattle.asm_symbols.specs.SymbolMap.{SymbolMap}
+use Rattle.asm_symbols.specs.SymbolMap.{SymbolMap, names, index_of}
 use Rattle.asm_relax.specs.Final.{field_value}
 use Rattle.asm_relax.specs.Settling.{LaidSections}
 use Rattle.elf_symbols.specs.declared.symbol_values.SymbolSection.{SymbolSection}
-use Rattle.elf_symbols.specs.declared.symbol_values.SymbolSection.TheVariants.{Undefined, Absolute, Common, InSection}
+use Rattle.elf_symbols.specs.declared.symbol_values.SymbolSection.TheVariants.{Undefined, Absolute, Common, InSection, InGroup}
 use Rattle.elf_symbols.specs.declared.symbol_values.SymbolValue.{SymbolValue}
+use Rattle.elf_symbols.specs.declared.numbers.Standing.{Standing}
+use Rattle.elf_symbols.specs.declared.numbers.Standing.TheVariants as standing
 use Rattle.elf_symbols.specs.declared.entries.SymbolType.{SymbolType}
 use Rattle.elf_symbols.specs.declared.entries.SymbolType.TheVariants as type
 use Rattle.elf_file.specs.StringTable.{name_offsets}
@@ -59,12 +64,13 @@ visibility_number (Some Hidden) = 2
 visibility_number (Some Protected) = 3
 
 -- SHN_UNDEF, SHN_ABS and SHN_COMMON, and the header indices of sections (gABI, chapter 4, "Special Section Indexes");
--- each section that a symbol stands in is there
+-- each section that a symbol stands in is there; the headers of groups stand right behind the null header
 abbrev pub section_index_of : List ℕ → SymbolSection → ℕ
 section_index_of headers Undefined = 0
 section_index_of headers Absolute = 0xfff1
 section_index_of headers Common = 0xfff2
 section_index_of headers (InSection number) = slice_index_or headers number 0
+section_index_of headers (InGroup index) = index + 1
 
 -- the entry of a symbol whose name stands at this offset (Elf64_Sym)
 abbrev pub symbol_bytes : List ℕ → ℕ → SymbolEntry → List ℕ
@@ -123,15 +129,26 @@ is_undefined_section Undefined = true
 is_undefined_section Absolute = false
 is_undefined_section Common = false
 is_undefined_section (InSection number) = false
+is_undefined_section (InGroup index) = false
 
--- a symbol of another object, and one that is local to the file by its name and binding, stand in the table only where a relocation names them
+-- a symbol of another object, and one that is local to the file by its name and binding, stand in the table only where a relocation names them, or a group where they are defined
 abbrev pub needs_naming : Symbol → SymbolValue → Bool
 needs_naming symbol there = is_undefined_section there.section || (is_file_local symbol.name && is_local (binding_of symbol.meaning symbol.binding))
+
+-- the name is the signature of a group
+abbrev pub is_signature : LaidSections → Name → Bool
+is_signature sections (Plain text) = list_any (has_signature text) (groups_of sections)
+is_signature sections (Numeric number instance) = false
+is_signature sections (Place section item offset) = false
+
+-- a group names the symbol of its signature, where this object defines that
+abbrev pub is_named_by_group : LaidSections → Symbol → SymbolValue → Bool
+is_named_by_group sections symbol there = not (is_undefined_section there.section) && is_signature sections symbol.name
 
 -- the entry of a symbol that stands there, unless it needs naming and nothing names it
 abbrev pub listed_if : SymbolMap → LaidSections → Bool → Bool → Symbol → SymbolValue → Option SymbolEntry
 listed_if map sections named thread_local symbol there =
-    if needs_naming symbol there && not named then None else Some (entry_at map sections thread_local symbol there)
+    if needs_naming symbol there && not (named || is_named_by_group sections symbol there) then None else Some (entry_at map sections thread_local symbol there)
 
 -- a symbol without a value, which is assigned what is no number and no place of this object, is undefined
 abbrev pub value_or_undefined : Option SymbolValue → SymbolValue
@@ -199,11 +216,61 @@ PutsPart local all before after = after ≡ before ++ part local all
 abbrev pub listed_all : SymbolMap → LaidSections → NamedOf → List (Option SymbolEntry)
 listed_all symbols sections named = listed_by symbols sections named.symbols named.thread_locals symbols.symbols
 
--- the entries behind the null symbol's: names of files, sections, local symbols, and the others, each in their order
+-- the entry of the signature of the group of this index: the place of its symbol is the group itself
+abbrev pub signature_entry : ℕ → List ℕ → SymbolEntry
+signature_entry index signature = record {
+  name = signature;
+  binding = Local;
+  kind = type.NoType;
+  visibility = None;
+  section = InGroup index;
+  value = 0;
+  size = 0;
+}
+
+-- where an entry stands that is local, or that is not
+abbrev pub standing_by : Bool → Standing
+standing_by true = standing.Local
+standing_by false = standing.Other
+
+-- where a symbol stands by its entry, if it has one
+abbrev pub standing_of : Option SymbolEntry → Standing
+standing_of None = standing.Absent
+standing_of (Some entry) = standing_by (is_local_entry entry)
+
+-- where each symbol stands
+abbrev pub standings : SymbolMap → LaidSections → NamedOf → List Standing
+standings symbols sections named = map standing_of (listed_all symbols sections named)
+
+-- a symbol that stands so is there and has an entry
+abbrev pub is_listed : Option Standing → Bool
+is_listed None = false
+is_listed (Some standing.Absent) = false
+is_listed (Some standing.Local) = true
+is_listed (Some standing.Other) = true
+
+-- the symbol of the signature has an entry of its own, where symbols stand so
+abbrev pub is_signature_listed : SymbolMap → List Standing → List ℕ → Bool
+is_signature_listed symbols all signature = is_listed (option_and_then (slice_get all) (index_of (Plain signature) (names symbols.symbols)))
+
+-- the entry of the signature of the group of this index, if its symbol has none of its own
+abbrev pub signature_if : SymbolMap → List Standing → ℕ → List ℕ → List SymbolEntry
+signature_if symbols all index signature = if is_signature_listed symbols all signature then [] else signature_entry index signature ∷ []
+
+-- the entries of signatures whose symbols have none of their own; the first group has this index
+abbrev pub signature_entries : SymbolMap → List Standing → ℕ → List Group → List SymbolEntry
+signature_entries symbols all index [] = []
+signature_entries symbols all index (group ∷ groups) = signature_if symbols all index group.signature ++ signature_entries symbols all (index + 1) groups
+
+-- the same of all groups
+abbrev pub own_signatures : SymbolMap → LaidSections → NamedOf → List SymbolEntry
+own_signatures symbols sections named = signature_entries symbols (standings symbols sections named) 0 (groups_of sections)
+
+-- the entries behind the null symbol's: names of files, sections, local symbols, signatures of groups that no other entry is of, and the others, each in their order
 unfoldable pub table_of : SymbolMap → LaidSections → NamedOf → List SymbolEntry
 table_of symbols sections named =
     map file_entry symbols.files ++ section_entries 0 named.sections
-    ++ part true (listed_all symbols sections named) ++ part false (listed_all symbols sections named)
+    ++ part true (listed_all symbols sections named) ++ own_signatures symbols sections named ++ part false (listed_all symbols sections named)
 
 -- the names of symbols in the symbol table
 unfoldable pub symbol_names : List SymbolEntry → List (List ℕ)

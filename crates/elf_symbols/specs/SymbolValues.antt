@@ -14,7 +14,7 @@ use Rattle.asm_symbols.specs.SymbolMap.{SymbolMap}
 use Rattle.asm_relax.specs.Final.{address_of, final_told, final_form}
 use Rattle.asm_relax.specs.Settling.{LaidSections}
 use Rattle.elf_symbols.specs.declared.symbol_values.SymbolSection.{SymbolSection}
-use Rattle.elf_symbols.specs.declared.symbol_values.SymbolSection.TheVariants.{Undefined, Absolute, Common, InSection}
+use Rattle.elf_symbols.specs.declared.symbol_values.SymbolSection.TheVariants.{Undefined, Absolute, Common, InSection, InGroup}
 use Rattle.elf_symbols.specs.declared.symbol_values.SymbolValue.{SymbolValue}
 
 -- a value that counts from the beginning of a section
@@ -89,3 +89,4 @@ is_thread_local sections Undefined = false
 is_thread_local sections Absolute = false
 is_thread_local sections Common = false
 is_thread_local sections (InSection number) = is_flagged sections thread_local number
+is_thread_local sections (InGroup index) = false

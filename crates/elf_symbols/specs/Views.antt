@@ -20,7 +20,7 @@ symbol_view s = record {
 
 -- the numbers by which relocations name sections and symbols
 abbrev pub numbers_view : Numbers → NumbersOf
-numbers_view numbers = record { sections = numbers.sections.items; symbols = numbers.symbols.items }
+numbers_view numbers = record { sections = numbers.sections.items; symbols = numbers.symbols.items; groups = numbers.groups.items }
 
 -- the marks of what relocations name
 abbrev pub named_view : Named → NamedOf

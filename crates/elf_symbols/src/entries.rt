@@ -95,6 +95,7 @@ fn section_index_of(headers: &[usize], section: SymbolSection) -> usize
         SymbolSection::Absolute => 0xfff1,
         SymbolSection::Common => 0xfff2,
         SymbolSection::InSection(number) => headers.get(number as usize).copied().unwrap_or(0),
+        SymbolSection::InGroup(index) => index as usize + 1,
     }
 }
 
@@ -211,6 +212,23 @@ fn needs_naming(symbol: &Symbol, there: SymbolValue) -> bool
         || (is_file_local(&symbol.name) && is_local(binding_of(&symbol.meaning, symbol.binding)))
 }
 
+/// Whether the name is the signature of a group.
+fn is_signature(sections: &Sections<Laid>, name: &Name) -> bool
+    ensures { result ≡ spec.is_signature sections.now name.now }
+{
+    match name {
+        Name::Plain(text) => sections.has_group(text.as_bytes()),
+        _ => false,
+    }
+}
+
+/// Whether a group names the symbol: it is that of its signature, and this object defines it.
+fn is_named_by_group(sections: &Sections<Laid>, symbol: &Symbol, there: SymbolValue) -> bool
+    ensures { result ≡ spec.is_named_by_group sections.now symbol.now there }
+{
+    !matches!(there.section, SymbolSection::Undefined) && is_signature(sections, &symbol.name)
+}
+
 /// Where a symbol stands that has this value; one without a value is undefined.
 fn value_or_undefined(value: Option<SymbolValue>) -> SymbolValue
     ensures { result ≡ spec.value_or_undefined value }
@@ -240,7 +258,7 @@ pub(crate) fn listed<'a>(
         ≡ spec.listed at.entry.symbols.now at.entry.sections.now named thread_local symbol.now) }
 {
     let there = value_or_undefined(symbol_value_of(alloc, at, expansions, &symbol.meaning)?);
-    if needs_naming(symbol, there) && !named {
+    if needs_naming(symbol, there) && !(named || is_named_by_group(at.sections, symbol, there)) {
         return Ok(None);
     }
     let entry = entry_at(alloc, at, expansions, thread_local, symbol, there)?;
@@ -258,6 +276,22 @@ pub(crate) fn file_entry(name: &Name) -> TableSymbol<'_>
         kind: SymbolType::File,
         visibility: None,
         section: SymbolSection::Absolute,
+        value: 0,
+        size: 0,
+    }
+}
+
+/// The entry of the signature of the group of this index, which is the group itself.
+#[tactic(auto, unfolding(crate::specs::Views::symbol_view))]
+pub(crate) fn signature_entry(index: u32, signature: &[u8]) -> TableSymbol<'_>
+    ensures { symbol_view result ≡ spec.signature_entry index signature.now }
+{
+    TableSymbol {
+        name: signature,
+        binding: Binding::Local,
+        kind: SymbolType::NoType,
+        visibility: None,
+        section: SymbolSection::InGroup(index),
         value: 0,
         size: 0,
     }

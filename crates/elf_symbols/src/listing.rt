@@ -2,12 +2,17 @@
 
 ghost use Rattle.std.specs.Prelude.{◌≡◌, ◌++◌, [], ◌∷◌, true, false, length, map, option_map, IfOk, OnOk};
 ghost use Rattle.assigned_forms.specs.Expanding.{AreExpansions};
-ghost use Rattle.elf_symbols.specs.Numbers.{first_other, numbers_of, standing_of};
+ghost use Rattle.asm_frags.specs.Groups.{groups_of};
+ghost use Rattle.elf_symbols.specs.Numbers.{first_other, numbers_of};
 ghost use Rattle.elf_symbols.specs.SymbolTable as spec;
 ghost use Rattle.elf_symbols.specs.Views.{symbol_view, named_view, numbers_view};
 
-use crate::entries::{TableSymbol, file_entry, is_local_entry, listed, section_entry};
-use crate::numbers::{Numbers, Standing, section_numbers, symbol_numbers};
+use crate::entries::{
+    TableSymbol, file_entry, is_local_entry, listed, section_entry, signature_entry,
+};
+use crate::numbers::{
+    Numbers, Standing, group_numbers, is_signature_listed, section_numbers, symbol_numbers,
+};
 use crate::symbol_values::Placement;
 use crate::targets::Named;
 use asm_base::NoMemory;
@@ -28,7 +33,7 @@ fn put_listed<'a>(
     ensures others { let all = option_map symbol_view one.entry ∷ [] in OnOk result
         (spec.PutsPart false all (map symbol_view others.old.items) (map symbol_view others.new.items)) }
     ensures standing { IfOk result (λ standing. standing
-        ≡ standing_of (option_map symbol_view one.entry)) }
+        ≡ spec.standing_of (option_map symbol_view one.entry)) }
 {
     let Some(entry) = one else {
         return Ok(Standing::Absent);
@@ -64,7 +69,7 @@ fn put_symbols<'a>(
         threads.now symbols.now in OnOk result (spec.PutsPart false all
         (map symbol_view others.old.items) (map symbol_view others.new.items)) }
     ensures standings { let all = spec.listed_by at.entry.symbols.now at.entry.sections.now marks.now
-        threads.now symbols.now in IfOk result (λ made. made.items ≡ map standing_of all) }
+        threads.now symbols.now in IfOk result (λ made. made.items ≡ map spec.standing_of all) }
 {
     let mut standings = Vec::with_capacity(alloc, symbols.len())?;
     for (index, symbol) in symbols.iter().enumerate() {
@@ -94,6 +99,40 @@ fn put_sections(out: &mut Vec<TableSymbol>, marks: &[bool]) -> Result<(), AllocE
         if *mark {
             out.push(section_entry(number))?;
         }
+    }
+    Ok(())
+}
+
+/// Appends the entry of the signature of the group of this index, if its symbol has none of its own.
+fn put_signature<'a>(
+    at: Placement<'a>,
+    standings: &[Standing],
+    index: u32,
+    signature: &'a [u8],
+    out: &mut Vec<TableSymbol<'a>>,
+) -> Result<(), AllocError>
+    ensures { OnOk result (map symbol_view out.new.items ≡ map symbol_view out.old.items
+        ++ spec.signature_if at.entry.symbols.now standings.now index signature.now) }
+{
+    if !is_signature_listed(at.symbols, standings, signature) {
+        out.push(signature_entry(index, signature))?;
+    }
+    Ok(())
+}
+
+/// Appends the entries of signatures of groups whose symbols, which stand so, have none of their own.
+fn put_signatures<'a>(
+    at: Placement<'a>,
+    standings: &[Standing],
+    out: &mut Vec<TableSymbol<'a>>,
+) -> Result<(), AllocError>
+    ensures { OnOk result (map symbol_view out.new.items ≡ map symbol_view out.old.items
+        ++ spec.signature_entries at.entry.symbols.now standings.now 0
+        (groups_of at.entry.sections.now)) }
+{
+    for index in 0..at.sections.group_count() {
+        let (signature, _) = at.sections.group(index);
+        put_signature(at, standings, index as u32, signature, out)?;
     }
     Ok(())
 }
@@ -141,11 +180,16 @@ pub fn list_symbols<'a>(
         &mut symbols,
         &mut others,
     )?;
+    let first_signature = 1 + symbols.len();
+    put_signatures(at, &standings, &mut symbols)?;
     let first_other = 1 + symbols.len();
     symbols.extend_from_slice(&others)?;
+    let own_numbers = symbol_numbers(alloc, first_local, first_other, &standings)?;
+    let groups = group_numbers(alloc, at, &standings, &own_numbers, first_signature)?;
     let numbers = Numbers {
         sections: section_numbers(alloc, first_section, &named.sections)?,
-        symbols: symbol_numbers(alloc, first_local, first_other, &standings)?,
+        symbols: own_numbers,
+        groups,
     };
     Ok(Listing {
         symbols,

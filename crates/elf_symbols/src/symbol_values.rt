@@ -34,6 +34,8 @@ pub enum SymbolSection {
     Common,
     /// The section of this number.
     InSection(u64),
+    /// The group of this index.
+    InGroup(u32),
 }
 
 /// Where a symbol stands: `st_shndx` and `st_value`.

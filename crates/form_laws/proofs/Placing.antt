@@ -38,7 +38,7 @@ use Rattle.asm_words.specs.declared.directives.AlignedBy.{AlignedBy}
 use Rattle.asm_words.specs.declared.directives.Syntax.{Syntax}
 use Rattle.asm_words.specs.declared.directives.Syntax.TheVariants.{Att, Intel}
 use Rattle.asm_words.specs.Paddings.{align_of, org_of}
-use Rattle.asm_words.specs.SectionWords.{SectionWords, section_words}
+use Rattle.asm_words.specs.SectionWords.{SectionWords, section_words, said_group}
 use Rattle.asm_words.specs.Spaces.{space_size, space_of, units_of, unit_size, log_of}
 use Rattle.asm_words.specs.SymbolKinds.{named_kind}
 use Rattle.asm_symbols.specs.declared.entries.Definition.TheVariants.{Space, Common}
@@ -59,7 +59,7 @@ use Rattle.asm_items.specs.Orgs.{known_origin, origin_by, place_org}
 use Rattle.asm_items.specs.Leb128Numbers.{put_number_by, put_numbers, put_leb128, some_expressions, place_leb128}
 use Rattle.asm_declarations.specs.Commons.{bss, with_space, with_common, is_said_local, place_space, place_comm, place_lcomm, SpaceWords, with_own, space_words}
 use Rattle.asm_declarations.specs.Idents.{items_in, comment_bytes, comment_header, place_ident, place_file, one_string, file_name}
-use Rattle.asm_declarations.specs.SectionChanges.{bare, option_trees, entry_size_in, header_by, entered_as, enter_words, place_section, place_pushed, back_to, popped}
+use Rattle.asm_declarations.specs.SectionChanges.{bare, option_trees, entry_size_in, header_by, entered_as, entered_for, with_signature, enter_words, place_section, place_pushed, back_to, popped}
 use Rattle.asm_declarations.specs.SymbolWords.{place_said, place_type}
 use Rattle.asm_place.specs.Coding.{InsnShape, shape_in, forms_of, values_in, of_operands, of_code, fields_of, put_rest, put_code, keeps_place, put_coded, put_by_jump, put_insn, put_named, insn_of_trees, from_own_place, place_insn, place_read, lone_code, insn_by, place_coded, place_instruction}
 use Rattle.asm_place.specs.CodePlaces.{ValueForms, FieldInCode}
@@ -93,6 +93,11 @@ walked before {f = f} first later = step first (λ x stays. stays_on before x st
 -- the names of expressions become symbols
 pub names_stay : (pos : Pos) (trees : List Tree) (placed : Placed) → Stays placed (with_names pos trees placed)
 names_stay pos trees placed = trees_keep pos trees placed.table
+
+-- so does the signature of a group
+signature_stays : (pos : Pos) (signature : Option (List ℕ)) (placed : Placed) → Stays placed (with_signature pos signature placed)
+signature_stays pos None placed = still placed
+signature_stays pos (Some text) placed = name_keeps pos (naming.Plain text) placed.table
 
 -- the table that a step makes on what is placed
 table_walk : (placed : Placed) (r : Result Table PlaceCause) → Fine (Tables placed.table) r → Walks placed (r >>= λ table. Ok (with_table placed table))
@@ -393,11 +398,14 @@ unfolding enter_words
 enter_walk pos words placed =
     let trees = option_trees words.entry_size in
     let named = with_names pos trees placed in
+    let all = with_signature pos words.signature named in
     stays_on placed named (names_stay pos trees placed)
-    (after (entry_size_in (known_here named) words.entry_size)
+    (stays_on named all (signature_stays pos words.signature named)
+    (after (entry_size_in (known_here all) words.entry_size)
     (λ size. after (header_by placed.sections words size)
-    (λ header. after (entered_as placed.sections words.name header)
-    (λ pair. step (allowed_keeps (naming_of trees placed.table) named.table) (λ table kept. made _ kept)))))
+    (λ header. after (said_group words)
+    (λ group. after (entered_for group placed.sections words.name header)
+    (λ pair. step (allowed_keeps (naming_of trees placed.table) all.table) (λ table kept. made _ kept)))))))
 
 pub section_walk : (pos : Pos) (tokens : List SpelledToken) (placed : Placed) → Walks placed (place_section pos tokens placed)
 unfolding place_section

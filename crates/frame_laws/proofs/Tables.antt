@@ -1,6 +1,6 @@
 -- A frame table reads in the file.
 use Rattle.std.proofs.Common.{◌≡◌, ℕ, zero, suc, ◌+◌, ◌==◌, ◌*◌, ◌^◌, ◌≤◌, inl, inr, true, false, List, [], ◌∷◌, ◌++◌, All, Option, Some, None, Ok, length, refl, sym, ap, ◌∙◌, subst, arith, length-append}
-use Rattle.std.specs.Prelude.{codes, slice_get, slice_set, IsSomeAnd, IsSome}
+use Rattle.std.specs.Prelude.{◌&&◌, codes, is_none, slice_get, slice_set, IsSomeAnd, IsSome}
 use Rattle.std.specs.Option.{option_map_or}
 use Rattle.std.specs.Str.{bytes_eq}
 use Rattle.std.proofs.lemmas.List.Elements.{All-head, All-tail, All-weaker}
@@ -9,6 +9,7 @@ use Rattle.std.proofs.lemmas.Option.{none-some, same_Some, get_or_from_slice_get
 use Rattle.asm_base.specs.declared.places.SectionPlace.{SectionPlace}
 use Rattle.asm_base.specs.declared.positions.Pos.{Pos}
 use Rattle.asm_symbols.specs.SymbolMap.{SymbolMap}
+use Rattle.asm_frags.specs.declared.groups.Group.{Group}
 use Rattle.asm_frags.specs.Fields.{own_place}
 use Rattle.asm_frags.specs.SectionOf.{SectionOf, is_section_named}
 use Rattle.asm_frags.specs.Addresses.{changed_there}
@@ -149,9 +150,15 @@ module _ (facts : TableFacts) (frame : Frame) (frames : List Frame) (tables afte
 
   module _ (before held : LooseSection) (was : slice_get put.first.sections put.section ≡ Some before) (there : slice_get after.sections put.section ≡ Some held)
       (takes : takes_zeros_alone before ≡ false) (more : Extends before held) where
+    -- it keeps its name, and is in no group
+    held_named : is_section_named (codes ".eh_frame") held ≡ true
+    held_named =
+        ap (λ (group : Option Group). is_none group && bytes_eq (codes ".eh_frame") held.name) more.group
+        ∙ (ap (λ (name : List ℕ). is_none before.group && bytes_eq (codes ".eh_frame") name) more.name ∙ first_named before was)
+
     -- the section is as it was
     stays : slice_get last.sections put.section ≡ Some held
-    stays = goes_on.kept put.section held there (ap (bytes_eq (codes ".eh_frame")) more.name ∙ first_named before was)
+    stays = goes_on.kept put.section held there held_named
 
     own : (shifts : List ℕ) × (slice_get laid put.section ≡ Some (kept_section last.symbols shifts held))
     own = facts.layouts.section last.symbols last.sections laid put.section held is stays
@@ -263,7 +270,7 @@ module _ (facts : TableFacts) (frame : Frame) (frames : List Frame) (tables afte
           record {
             number = put.section;
             section = subst (λ found. IsSomeAnd found IsTableSection) (sym own.1)
-                (record { named = ap (bytes_eq (codes ".eh_frame")) more.name ∙ first_named before was; filed = section.takes });
+                (record { named = held_named; filed = section.takes });
             common = at_end section start;
             stands = common_stands;
             entries = subst (λ (offset : ℕ). EntriesFill (image_of last.symbols laid) last.symbols laid put.section (at_end section start) offset (frame ∷ frames)) place

@@ -1,6 +1,6 @@
 -- A line table reads in the file.
 use Rattle.std.proofs.Common.{◌≡◌, ℕ, zero, suc, ◌+◌, ◌-◌, ◌^◌, ◌%◌, ◌<◌, ◌≤◌, ◌==◌, inl, inr, true, false, List, [], ◌∷◌, ◌++◌, All, Option, Some, None, Ok, take, length, refl, sym, ap, ◌∙◌, subst, arith, append_assoc, append-nil, length-append}
-use Rattle.std.specs.Prelude.{codes, slice_get, IsSomeAnd}
+use Rattle.std.specs.Prelude.{◌&&◌, codes, is_none, slice_get, IsSomeAnd}
 use Rattle.std.specs.Option.{option_map_or, option_and_then}
 use Rattle.std.specs.Str.{bytes_eq}
 use Rattle.std.proofs.lemmas.List.Elements.{All-nil, All-cons, All-head, All-tail, All-get_or}
@@ -11,6 +11,7 @@ use Rattle.asm_base.specs.declared.places.SectionPlace.{SectionPlace}
 use Rattle.asm_base.specs.declared.positions.Pos.{Pos}
 use Rattle.asm_expr.specs.Forms.{wrapped}
 use Rattle.asm_frags.specs.declared.fields.FieldSize.TheVariants.{Four}
+use Rattle.asm_frags.specs.declared.groups.Group.{Group}
 use Rattle.asm_frags.specs.Fields.{low_bytes, own_place}
 use Rattle.asm_frags.specs.SectionOf.{SectionOf, is_section_named}
 use Rattle.asm_frags.specs.Writing.{LooseSection, takes_zeros_alone}
@@ -468,12 +469,18 @@ module _ (facts : TableFacts) (pos : Pos) (directives : List LineDirective) (lin
           (subst (λ (n : ℕ). IsFound facts.pieces facts.rows section pos first.sections directives n sequences.written (rows_before number lines) (at_end section behind))
           (let same : 0 + number ≡ number = omega arith in same) (sequences.each number (sequence_made row rows) there))
 
+      -- the section keeps its name, and is in no group
+      held_named : is_section_named (codes ".debug_line") held ≡ true
+      held_named =
+          ap (λ (group : Option Group). is_none group && bytes_eq (codes ".debug_line") held.name) more.group
+          ∙ (ap (λ (name : List ℕ). is_none before.group && bytes_eq (codes ".debug_line") name) more.name ∙ first_named before was)
+
       -- the table reads in the file
       table_reads : LineTableReads file after.symbols laid tables.sections directives lines
       table_reads = record {
         number = put.section;
         section = subst (λ found. IsSomeAnd found IsLineSection) (sym own.1)
-            (record { named = ap (bytes_eq (codes ".debug_line")) more.name ∙ first_named before was; filed = section.takes });
+            (record { named = held_named; filed = section.takes });
         sequences = sequences.written;
         count = sequences.count;
         stands = table_stands;

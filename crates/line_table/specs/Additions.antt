@@ -1,5 +1,6 @@
 -- What a table adds to the sections and to the symbols, and what stays.
 use Rattle.std.specs.Prelude.{◌≡◌, ℕ, ◌⊎◌, List, [], ◌∷◌, ◌++◌, All, codes, map, Some, Ok, slice_get}
+use Rattle.asm_frags.specs.Groups.{groups_of}
 use Rattle.asm_frags.specs.SectionOf.{section_number}
 use Rattle.asm_frags.specs.Writing.{LooseSection}
 use Rattle.asm_symbols.specs.declared.entries.Symbol.{Symbol}
@@ -15,10 +16,16 @@ use Rattle.line_table.specs.Placing.{placed}
 abbrev pub section_names : List LooseSection → List (List ℕ)
 section_names sections = map (λ section. section.name) sections
 
--- the sections have their names, and there is at most one more, `.debug_line`; symbols whose names take no bytes are put last, and files stay, so that all
--- names take as many bytes as before
+-- the types of sections, in their order
+abbrev pub section_kinds : List LooseSection → List ℕ
+section_kinds sections = map (λ section. section.kind) sections
+
+-- the sections have their names and types, and there is at most one more, `.debug_line`, of type SHT_PROGBITS; groups stay; symbols whose names take no bytes are put
+-- last, and files stay, so that all names take as many bytes as before
 pub record AddsLittle (before after : Tables) : Type 0 where
   pub sections : (section_names after.sections ≡ section_names before.sections) ⊎ (section_names after.sections ≡ section_names before.sections ++ codes ".debug_line" ∷ [])
+  pub kinds : (section_kinds after.sections ≡ section_kinds before.sections) ⊎ (section_kinds after.sections ≡ section_kinds before.sections ++ 1 ∷ [])
+  pub groups : groups_of after.sections ≡ groups_of before.sections
   pub labels : List Symbol
   pub all : after.symbols.symbols ≡ before.symbols.symbols ++ labels
   pub without_bytes : All (λ label. name_size label.name ≡ 0) labels

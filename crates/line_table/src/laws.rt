@@ -65,8 +65,8 @@ pub fn tables_are_found()
     pieces_are_found();
 }
 
-/// A table brings at most one section, `.debug_line`, and symbols whose names take no bytes; sections keep their names, and
-/// files stay.
+/// A table brings at most one section, `.debug_line`, and symbols whose names take no bytes; sections keep their names
+/// and types, and groups and files stay.
 pub fn tables_add_little()
     ensures { TablesAddLittle }
 {

@@ -5,6 +5,7 @@ mod SectionReads
 mod NameReads
 mod NamedReads
 mod ObjectParts
+mod EntryNumbers
 mod ObjectFit
 mod SymbolReads
 mod SectionOffsets
@@ -12,9 +13,12 @@ mod LocalReads
 mod TableSearch
 mod RelocationFit
 mod RelocationReads
+mod GroupReads
+mod GroupFlags
 mod TakenNames
 mod SmallObjects
 mod ObjectSamples
+mod GroupSamples
 mod Types
 mod Numbers
 mod Entries

@@ -102,7 +102,7 @@ locals_read law symbols sections zero symbol fits is =
     let same : null_symbol ≡ symbol = same_some null_symbol symbol (sym (null_symbols_read symbols sections fits) ∙ is) in
     subst (Bound (info_in symbols sections) 0) same (λ (low : 0 < info_in symbols sections). refl, λ (high : info_in symbols sections ≤ 0) (e : 0 / 16 ≡ 0). omega arith)
 locals_read law symbols sections (suc index) symbol fits is =
-    let headers = header_indices (relocations_of symbols sections) in
+    let headers = header_indices sections (relocations_of symbols sections) in
     let table = table_in symbols sections in
     let bytes = symbol_table_of headers table in
     let read : symbol_record bytes (suc index) ≡ Some symbol = record_in bytes (suc index) symbol (table_read symbols sections fits) is in

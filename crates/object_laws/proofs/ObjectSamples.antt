@@ -3,6 +3,7 @@ use Rattle.std.proofs.Common.{◌≡◌, ℕ, zero, suc, ◌^◌, ◌≤◌, [],
 use Rattle.std.specs.Prelude.{slice_get}
 use Rattle.std.proofs.lemmas.List.Elements.{All-nil, All-cons}
 use Rattle.asm_expr.specs.declared.naming.Name.TheVariants.{Plain}
+use Rattle.asm_frags.specs.Groups.{groups_of}
 use Rattle.asm_frags.specs.SectionOf.{SectionOf}
 use Rattle.asm_symbols.specs.declared.entries.Binding.TheVariants.{Global}
 use Rattle.asm_symbols.specs.declared.entries.Meaning.TheVariants.{Label}
@@ -26,7 +27,7 @@ use Rattle.elf_object.specs.TableLaws.{table_in}
 use Rattle.object_laws.proofs.FileParts.{bodies, file_long}
 use Rattle.object_laws.proofs.ObjectParts.{image_is}
 use Rattle.object_laws.specs.ObjectLimits.{ObjectFits, entries_of}
-use Rattle.object_laws.specs.SmallSources.{IsSmallSource}
+use Rattle.object_laws.specs.SmallSources.{HasShortSignature, IsSmallSource}
 
 -- `.globl f`, `f:`
 abbrev f : Symbol
@@ -46,29 +47,29 @@ symbols = record { symbols = f ∷ []; files = Plain (codes "a.c") ∷ []; count
 
 -- `.text`, `nop`, `ret`
 abbrev text : SectionOf LaidItem
-text = record { name = codes ".text"; flags = record { 0 = 6 }; kind = 1; entry_size = 0; bytes = 0x90 ∷ 0xc3 ∷ []; fields = []; items = [] }
+text = record { name = codes ".text"; flags = record { 0 = 6 }; kind = 1; entry_size = 0; group = None; bytes = 0x90 ∷ 0xc3 ∷ []; fields = []; items = [] }
 
 abbrev sections : LaidSections
 sections = text ∷ []
 
 two_symbols : length (table_in symbols sections) ≡ 2
-unfolding table_of named_of listed address_of shift_in symbol_kind symbol_size said_along
+unfolding groups_of table_of named_of listed address_of shift_in symbol_kind symbol_size said_along
 two_symbols = refl
 
 symbol_names_small : length (string_table_of (symbol_names (table_in symbols sections))) ≡ 7
-unfolding table_of named_of listed address_of shift_in symbol_kind symbol_size said_along symbol_names string_table_of
+unfolding groups_of table_of named_of listed address_of shift_in symbol_kind symbol_size said_along symbol_names string_table_of
 symbol_names_small = refl
 
 section_names_small : length (string_table_of (all_names (entries_of symbols sections))) ≡ 33
-unfolding before_names all_names section_names string_table_of
+unfolding groups_of before_names all_names section_names string_table_of
 section_names_small = refl
 
 three_entries : length (entries_of symbols sections) ≡ 3
-unfolding before_names
+unfolding groups_of before_names
 three_entries = refl
 
 bodies_size : length (bodies (entries_of symbols sections)) ≡ 120
-unfolding image_of image_with before_names file_with file_of header_table null_header elf_header half word xword name_offsets all_names section_names with_names string_table_of filled interleaved symbol_table_of table_of named_of listed address_of shift_in symbol_kind symbol_size said_along symbol_names section_size section_bytes
+unfolding groups_of image_of image_with before_names file_with file_of header_table null_header elf_header half word xword name_offsets all_names section_names with_names string_table_of filled interleaved symbol_table_of table_of named_of listed address_of shift_in symbol_kind symbol_size said_along symbol_names section_size section_bytes
 bodies_size = refl
 
 size : length (image_of symbols sections) ≡ 504
@@ -79,7 +80,7 @@ size =
 
 -- all numbers of the object fit
 fits : ObjectFits symbols sections
-unfolding table_of named_of listed address_of shift_in symbol_kind symbol_size said_along
+unfolding groups_of table_of named_of listed address_of shift_in symbol_kind symbol_size said_along
 fits = record {
   source_sections = λ i s is. each i s is;
   symbol_values = λ i s is. all i s is;
@@ -91,7 +92,7 @@ fits = record {
 }
   where
     each : (i : ℕ) (s : SectionOf LaidItem) → slice_get sections i ≡ Some s → SourceFits s
-    each zero s is = let same : text ≡ s = cc in subst SourceFits same (record { kind = omega arith; flags = omega arith; alignment = omega arith; entry_size = omega arith })
+    each zero s is = let same : text ≡ s = cc in subst SourceFits same (record { kind = omega arith; flags = omega arith; flagged = refl; alignment = omega arith; entry_size = omega arith })
     each (suc i) s is = absurd cc
 
     all : (i : ℕ) (s : SymbolEntry) → slice_get (table_in symbols sections) i ≡ Some s → SymbolFits s
@@ -104,9 +105,11 @@ names_taken = refl
 
 -- its source is small
 small : IsSmallSource symbols sections
+unfolding groups_of
 small = record {
   section_count = omega arith;
   section_names = All-cons (λ (section : SectionOf LaidItem). length section.name ≤ 2 ^ 16) text [] (omega arith) (All-nil (λ (section : SectionOf LaidItem). length section.name ≤ 2 ^ 16));
+  signatures = All-nil HasShortSignature;
   symbol_count = omega arith;
   name_bytes = omega (arith, names_taken);
 }

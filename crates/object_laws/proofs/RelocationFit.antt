@@ -20,7 +20,7 @@ use Rattle.elf_object.specs.declared.references.SymbolReference.{SymbolReference
 use Rattle.elf_object.specs.declared.relocations.Relocation.{Relocation}
 use Rattle.elf_object.specs.Contents.{filed_fields, section_relocations, relocations_from}
 use Rattle.elf_object.specs.Relocations.{reference_found, own_address, reference, relative, is_plus, is_minus, reference_by, final_reference, relocation_with, relocation, kind_for, field_place, field_relocation}
-use Rattle.object_laws.proofs.ObjectFit.{mapped}
+use Rattle.object_laws.proofs.ObjectParts.{mapped}
 
 -- r_offset and r_addend are Elf64_Xwords
 pub record RelocationFits (r : Relocation) : Type 0 where

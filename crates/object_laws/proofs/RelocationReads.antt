@@ -1,5 +1,5 @@
 -- Relocations are read back, and lead to the symbols that they mean.
-use Rattle.std.proofs.Common.{◌≡◌, ℕ, zero, suc, ◌+◌, ◌-◌, ◌*◌, ◌^◌, ◌<◌, ◌&&◌, not, Bool, true, false, cond, List, [], ◌∷◌, ◌++◌, Option, Some, None, length, option_map, option_and_then, refl, sym, ap, ◌∙◌, subst, arith, append_assoc, length-append}
+use Rattle.std.proofs.Common.{◌≡◌, ℕ, zero, suc, ◌+◌, ◌-◌, ◌*◌, ◌^◌, ◌<◌, ◌&&◌, ◌||◌, not, Bool, true, false, cond, List, [], ◌∷◌, ◌++◌, Some, None, length, option_map, option_and_then, refl, sym, ap, ◌∙◌, subst, arith, append_assoc, length-append}
 use Rattle.std.specs.Prelude.{slice_get}
 use Rattle.asm_symbols.specs.declared.entries.Symbol.{Symbol}
 use Rattle.asm_symbols.specs.SymbolMap.{SymbolMap}
@@ -11,7 +11,7 @@ use Rattle.elf_file.specs.Reader.{relocation_in, relocation_record}
 use Rattle.elf_symbols.specs.declared.targets.Target.{Target}
 use Rattle.elf_symbols.specs.declared.targets.Target.TheVariants.{OfSection, OfSymbol}
 use Rattle.elf_symbols.specs.Numbers.{NumbersOf, numbers_of, target_number}
-use Rattle.elf_symbols.specs.SymbolTable.{SymbolEntry, section_entry, text_of, entry_at, needs_naming, listed_if, value_or_undefined, listed, listed_by}
+use Rattle.elf_symbols.specs.SymbolTable.{SymbolEntry, section_entry, text_of, entry_at, needs_naming, is_named_by_group, listed_if, value_or_undefined, listed, listed_by}
 use Rattle.elf_symbols.specs.declared.symbol_values.SymbolValue.{SymbolValue}
 use Rattle.elf_symbols.specs.SymbolValues.{symbol_value_of}
 use Rattle.elf_object.specs.declared.relocations.Relocation.{Relocation}
@@ -33,7 +33,7 @@ use Rattle.object_laws.proofs.SymbolReads.{object_section, content_read, symbols
 pub relocation_tables_read : RelocationTablesRead
 relocation_tables_read symbols sections number section own fits is also some =
     let at = placed symbols sections number section own is also in
-    object_section symbols sections (at.place + 1) (header_index symbols sections number + 1) (relocations_section symbols sections number section.name own) fits
+    object_section symbols sections (at.place + 1) (header_index symbols sections number + 1) (relocations_section symbols sections number section own) fits
     (ap (λ n. n + 1) at.header) (at.behind some)
 
 entry_long : (number : ℕ) (r : Relocation) → length (relocation_entry number r) ≡ 24
@@ -96,7 +96,7 @@ says number r fits low = record {
 entry_named : (map : SymbolMap) (sections : LaidSections) (mark thread : Bool) (symbol : Symbol) (there : SymbolValue) (entry : SymbolEntry)
     → listed_if map sections mark thread symbol there ≡ Some entry → entry.name ≡ text_of symbol.name
 entry_named map sections mark thread symbol there entry is =
-    kept (needs_naming symbol there && not mark) (entry_at map sections thread symbol there) entry is
+    kept (needs_naming symbol there && not (mark || is_named_by_group sections symbol there)) (entry_at map sections thread symbol there) entry is
   where
     kept : (b : Bool) (made got : SymbolEntry) → cond b None (Some made) ≡ Some got → got.name ≡ made.name
     kept true made got is = absurd cc
@@ -109,7 +109,7 @@ listed_named map sections mark thread symbol entry is =
     entry_named map sections mark thread symbol (value_or_undefined (symbol_value_of map sections symbol.meaning)) entry is
 
 -- an entry that is listed is that of the symbol of its index
-listed_from : (map : SymbolMap) (sections : LaidSections) (marks threads : List Bool) (symbols : List Symbol) (index : ℕ) (entry : SymbolEntry)
+pub listed_from : (map : SymbolMap) (sections : LaidSections) (marks threads : List Bool) (symbols : List Symbol) (index : ℕ) (entry : SymbolEntry)
     → slice_get (listed_by map sections marks threads symbols) index ≡ Some (Some entry)
     → (symbol : Symbol) × (slice_get symbols index ≡ Some symbol) × (entry.name ≡ text_of symbol.name)
 listed_from map sections [] threads symbols index entry is = absurd cc
@@ -157,7 +157,7 @@ relocations_read law symbols sections number index section own r fits is also th
     record {
       relocation = relocation_in entry;
       found = ap (option_and_then (λ (xs : List ℕ). relocation_record xs index))
-          (content_read image header (relocations_section symbols sections number section.name own)
+          (content_read image header (relocations_section symbols sections number section own)
           (relocation_tables_read symbols sections number section own fits is also (holds_one own index r there)))
           ∙ record_read bytes index entry stands (entry_long which r);
       offset = own_fields.offset;
@@ -184,6 +184,6 @@ relocations_end symbols sections number index section own fits is also some past
     let bytes = relocation_bytes (numbers_of symbols sections (named_targets symbols sections)) own in
     let long : length bytes ≡ 24 * length own = entries_long (numbers_of symbols sections (named_targets symbols sections)) own in
     ap (option_and_then (λ (xs : List ℕ). relocation_record xs index))
-    (content_read (image_of symbols sections) (header_index symbols sections number + 1) (relocations_section symbols sections number section.name own)
+    (content_read (image_of symbols sections) (header_index symbols sections number + 1) (relocations_section symbols sections number section own)
     (relocation_tables_read symbols sections number section own fits is also some))
     ∙ record_past bytes index (omega arith)

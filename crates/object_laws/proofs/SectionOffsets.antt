@@ -1,9 +1,6 @@
 -- Where the bytes of a section begin, by its header.
 use Rattle.std.proofs.Common.{◌≡◌, ℕ, zero, suc, ◌+◌, ◌-◌, ◌<◌, ◌≤◌, List, [], ◌∷◌, ◌++◌, Option, Some, length, refl, sym, ap, ◌∙◌, subst, arith, length-append}
 use Rattle.std.specs.Prelude.{slice_get, slice_index_or}
-use Rattle.asm_frags.specs.SectionOf.{SectionOf}
-use Rattle.asm_symbols.specs.SymbolMap.{SymbolMap}
-use Rattle.asm_relax.specs.Settling.{LaidItem, LaidSections}
 use Rattle.elf_file.specs.declared.reader.SectionHeader.{SectionHeader}
 use Rattle.elf_file.specs.Image.{body_from, header_end, with_names, file_with}
 use Rattle.elf_file.specs.Places.{body_offset}
@@ -13,10 +10,10 @@ use Rattle.elf_object.specs.declared.relocations.Relocation.{Relocation}
 use Rattle.elf_object.specs.Contents.{relocations_of, section_relocations}
 use Rattle.elf_object.specs.Image.{image_of}
 use Rattle.elf_object.specs.Places.{section_offset}
-use Rattle.elf_object.specs.Sections.{header_count, header_indices_from, next_header, source_section}
+use Rattle.elf_object.specs.Sections.{first_header, header_indices_from, next_header, source_section}
 use Rattle.object_laws.specs.FileReading.{SectionRead}
-use Rattle.object_laws.specs.ObjectLimits.{entries_of, symbol_table_index, ObjectFits}
-use Rattle.object_laws.specs.SectionPlaces.{SectionFound, SourceSectionsFound}
+use Rattle.object_laws.specs.ObjectLimits.{entries_of, symbol_table_index}
+use Rattle.object_laws.specs.SectionPlaces.{SourceSectionsFound}
 use Rattle.object_laws.specs.SymbolReading.{header_index, symbol_table_section, symbol_names_section}
 use Rattle.object_laws.proofs.FileParts.{names_section}
 use Rattle.object_laws.proofs.SectionReads.{own_header, own_header_read, own_offset}
@@ -64,7 +61,7 @@ sections_found symbols sections fits number section is =
     let at = placed symbols sections number section own is listed in
     let place = at.place in
     let same : place + 1 ≡ header_index symbols sections number = at.header in
-    let below : header_index symbols sections number < symbol_table_index symbols sections = index_below 1 (relocations_of symbols sections) number own listed in
+    let below : header_index symbols sections number < symbol_table_index symbols sections = index_below (first_header sections) (relocations_of symbols sections) number own listed in
     let long : 1 + length (source_entries symbols sections) ≡ symbol_table_index symbols sections = sources_long symbols sections in
     let all : length entries ≡ length (source_entries symbols sections) + 2 =
     ap length (entries_are symbols sections) ∙ length-append (source_entries symbols sections) (symbol_table_section symbols sections ∷ symbol_names_section symbols sections ∷ []) in

@@ -1,10 +1,19 @@
 -- Sections and symbols of an object are read back.
-use Rattle.std.proofs.Common.{◌≡◌, ℕ, zero, suc, ◌+◌, ◌*◌, ◌/◌, ◌%◌, ◌^◌, ◌<◌, ◌≤◌, true, List, [], ◌∷◌, ◌++◌, Some, None, length, map, replicate, option_map, option_and_then, refl, sym, ap, ◌∙◌, subst, arith, append_assoc, length-append}
+use Rattle.std.proofs.Common.{◌≡◌, ℕ, zero, suc, ◌+◌, ◌*◌, ◌/◌, ◌%◌, ◌^◌, ◌<◌, ◌≤◌, ◌==◌, ◌&&◌, ◌||◌, not, Bool, true, false, cond, List, [], ◌∷◌, ◌++◌, Option, Some, None, length, map, replicate, option_map, option_and_then, refl, sym, ap, ◌∙◌, subst, arith, append_assoc, length-append}
 use Rattle.std.proofs.lemmas.List.{length-map}
 use Rattle.std.proofs.lemmas.Option.{slice_get-map}
 use Rattle.std.specs.Prelude.{slice_get, slice_index_or}
 use Rattle.std.specs.List.{list_all}
+use Rattle.asm_expr.specs.declared.forms.Term.{Term}
+use Rattle.asm_expr.specs.declared.naming.Name.{Name}
+use Rattle.asm_expr.specs.Knowledge.{Told, absent, constant, label, form}
+use Rattle.asm_frags.specs.declared.groups.Group.{Group}
+use Rattle.asm_frags.specs.Groups.{groups_of}
+use Rattle.asm_symbols.specs.declared.entries.Symbol.{Symbol}
+use Rattle.asm_symbols.specs.declared.entries.Meaning.{Meaning}
+use Rattle.asm_symbols.specs.declared.entries.Meaning.TheVariants as meaning
 use Rattle.asm_symbols.specs.SymbolMap.{SymbolMap}
+use Rattle.asm_relax.specs.Final.{final_told, final_form}
 use Rattle.asm_relax.specs.Settling.{LaidSections}
 use Rattle.elf_file.specs.declared.reader.SymbolRecord.{SymbolRecord}
 use Rattle.elf_file.specs.Fields.{half, word, xword, half_at, word_at, xword_at}
@@ -16,21 +25,22 @@ use Rattle.elf_file.specs.StringTable.{is_no_end, ended_name, string_table_of, n
 use Rattle.elf_symbols.specs.declared.entries.SymbolType.{SymbolType}
 use Rattle.elf_symbols.specs.declared.entries.SymbolType.TheVariants as type
 use Rattle.elf_symbols.specs.declared.symbol_values.SymbolSection.{SymbolSection}
-use Rattle.elf_symbols.specs.declared.symbol_values.SymbolSection.TheVariants.{Undefined, Absolute, Common, InSection}
+use Rattle.elf_symbols.specs.declared.symbol_values.SymbolSection.TheVariants.{Undefined, Absolute, Common, InSection, InGroup}
 use Rattle.elf_symbols.specs.Limits.{SymbolFits}
-use Rattle.elf_symbols.specs.SymbolTable.{SymbolEntry, binding_number, type_number, visibility_number, section_index_of, symbol_bytes, all_symbol_bytes, symbol_names, symbol_table_of}
+use Rattle.elf_symbols.specs.SymbolValues.{label_value, form_value, symbol_value_of}
+use Rattle.elf_symbols.specs.SymbolTable.{SymbolEntry, binding_number, type_number, visibility_number, section_index_of, symbol_bytes, all_symbol_bytes, symbol_names, symbol_table_of, file_entry, section_entry, section_entries, is_bound, part, entry_at, needs_naming, is_named_by_group, value_or_undefined, listed, listed_by, listed_all, signature_entry, is_signature_listed, signature_entries, own_signatures, standings, table_of}
 use Rattle.elf_object.specs.declared.relocations.Relocation.{Relocation}
 use Rattle.elf_object.specs.Contents.{section_relocations, relocations_of}
 use Rattle.elf_object.specs.Image.{image_of}
-use Rattle.elf_object.specs.Sections.{source_section, header_count, header_indices, header_indices_from, next_header}
-use Rattle.elf_object.specs.TableLaws.{table_in}
+use Rattle.elf_object.specs.Sections.{source_section, header_count, first_header, header_indices, header_indices_from, next_header}
+use Rattle.elf_object.specs.TableLaws.{named_targets, table_in}
 use Rattle.object_laws.specs.FileReading.{SectionRead}
 use Rattle.object_laws.specs.ObjectLimits.{entries_of, symbol_table_index, ObjectFits}
 use Rattle.object_laws.specs.SymbolReading.{header_index, SourceSectionsRead, symbol_table_section, symbol_names_section, SymbolTablesRead, linked_text, read_symbol_name, SymbolsRead, null_symbol, NullSymbolsRead, SymbolsEnd}
 use Rattle.object_laws.proofs.FieldReads.{half_read, word_read, xword_read, piece_read, piece_past}
 use Rattle.object_laws.proofs.FileParts.{behind_front}
 use Rattle.object_laws.proofs.NameReads.{sections_read, NameAt, name_there, begins_within, text_read}
-use Rattle.object_laws.proofs.ObjectParts.{source_entries, image_is, sources_long, relocations_there, placed, symbols_there, texts_there}
+use Rattle.object_laws.proofs.ObjectParts.{in_parts, source_entries, image_is, sources_long, relocations_there, placed, symbols_there, texts_there}
 use Rattle.object_laws.proofs.ObjectFit.{next_behind, file_fits}
 
 -- a section of the object, at the index of its header
@@ -174,26 +184,146 @@ low_half : (binding kind : ℕ) → kind < 16 → (16 * binding + kind) % 16 ≡
 low_half binding kind low = omega arith
 
 -- the indices of headers end before that of the symbol table
-index_below : (index : ℕ) (found : List (List Relocation)) (number : ℕ) → slice_index_or (header_indices_from index found) number 0 ≤ next_header index found
+pub index_below : (index : ℕ) (found : List (List Relocation)) (number : ℕ) → slice_index_or (header_indices_from index found) number 0 ≤ next_header index found
 index_below index [] number = omega arith
 index_below index (own ∷ found) zero =
     let later : index + header_count own ≤ next_header (index + header_count own) found = next_behind (index + header_count own) found in
     omega arith
 index_below index (own ∷ found) (suc number) = index_below (index + header_count own) found number
 
-index_small : (symbols : SymbolMap) (sections : LaidSections) (at : SymbolSection) → ObjectFits symbols sections
-    → section_index_of (header_indices (relocations_of symbols sections)) at < 2 ^ 16
-index_small symbols sections Undefined fits = omega arith
-index_small symbols sections Absolute fits = omega arith
-index_small symbols sections Common fits = omega arith
-index_small symbols sections (InSection number) fits =
+-- the group that the symbol stands in is one of so many
+abbrev pub IsGroupBelow : ℕ → SymbolSection → Type 0
+IsGroupBelow count Undefined = Unit {0}
+IsGroupBelow count Absolute = Unit {0}
+IsGroupBelow count Common = Unit {0}
+IsGroupBelow count (InSection number) = Unit {0}
+IsGroupBelow count (InGroup index) = index < count
+
+abbrev IsBelow : ℕ → SymbolEntry → Type 0
+IsBelow count entry = IsGroupBelow count entry.section
+
+-- so it is with each of these
+abbrev AreBelow : ℕ → List SymbolEntry → Type 0
+AreBelow count entries = (i : ℕ) (entry : SymbolEntry) → slice_get entries i ≡ Some entry → IsBelow count entry
+
+files_below : (count : ℕ) (files : List Name) → AreBelow count (map file_entry files)
+files_below count [] i entry is = absurd cc
+files_below count (name ∷ files) zero entry is = let same : file_entry name ≡ entry = cc in subst (IsBelow count) same tt
+files_below count (name ∷ files) (suc i) entry is = files_below count files i entry is
+
+own_below : (count number : ℕ) (marks : List Bool) → AreBelow count (section_entries number marks)
+own_below count number [] i entry is = absurd cc
+own_below count number (true ∷ marks) zero entry is = let same : section_entry number ≡ entry = cc in subst (IsBelow count) same tt
+own_below count number (true ∷ marks) (suc i) entry is = own_below count (number + 1) marks i entry is
+own_below count number (false ∷ marks) i entry is = own_below count (number + 1) marks i entry is
+
+-- a symbol of the source stands in no group
+label_below : (count : ℕ) (told : Told) (more : ℕ) → IsGroupBelow count (value_or_undefined (label_value told more)).section
+label_below count (label section address) more = tt
+label_below count absent more = tt
+label_below count (constant number) more = tt
+label_below count (form made) more = tt
+
+form_below : (count : ℕ) (map : SymbolMap) (sections : LaidSections) (terms : List Term) (number : ℕ) → IsGroupBelow count (value_or_undefined (form_value map sections terms number)).section
+form_below count map sections [] number = tt
+form_below count map sections (term ∷ []) number = by_test (term.coefficient == 1)
+  where
+    by_test : (b : Bool) → IsGroupBelow count (value_or_undefined (cond b (label_value (final_told map sections term.symbol) number) None)).section
+    by_test true = label_below count (final_told map sections term.symbol) number
+    by_test false = tt
+form_below count map sections (first ∷ second ∷ more) number = tt
+
+value_below : (count : ℕ) (map : SymbolMap) (sections : LaidSections) (what : Meaning) → IsGroupBelow count (value_or_undefined (symbol_value_of map sections what)).section
+value_below count map sections meaning.Undefined = tt
+value_below count map sections (meaning.Label spot) = tt
+value_below count map sections (meaning.Space spot) = tt
+value_below count map sections (meaning.Common size align) = tt
+value_below count map sections (meaning.Assigned made) = form_below count map sections (final_form map sections made).terms (final_form map sections made).constant
+
+-- so it is with each of those that are there
+abbrev SomeBelow : ℕ → List (Option SymbolEntry) → Type 0
+SomeBelow count all = (i : ℕ) (entry : SymbolEntry) → slice_get all i ≡ Some (Some entry) → IsBelow count entry
+
+one_below : (count : ℕ) (map : SymbolMap) (sections : LaidSections) (mark thread : Bool) (symbol : Symbol) (entry : SymbolEntry) → listed map sections mark thread symbol ≡ Some entry → IsBelow count entry
+unfolding listed
+one_below count map sections mark thread symbol entry is =
+    let there = value_or_undefined (symbol_value_of map sections symbol.meaning) in
+    kept (needs_naming symbol there && not (mark || is_named_by_group sections symbol there)) (entry_at map sections thread symbol there) (value_below count map sections symbol.meaning) is
+  where
+    kept : (b : Bool) (made : SymbolEntry) → IsBelow count made → cond b None (Some made) ≡ Some entry → IsBelow count entry
+    kept true made below is = absurd cc
+    kept false made below is = let same : made ≡ entry = cc in subst (IsBelow count) same below
+
+all_below : (count : ℕ) (map : SymbolMap) (sections : LaidSections) (marks threads : List Bool) (symbols : List Symbol) → SomeBelow count (listed_by map sections marks threads symbols)
+all_below count map sections [] threads symbols i entry is = absurd cc
+all_below count map sections (mark ∷ marks) [] symbols i entry is = absurd cc
+all_below count map sections (mark ∷ marks) (thread ∷ threads) [] i entry is = absurd cc
+all_below count map sections (mark ∷ marks) (thread ∷ threads) (symbol ∷ symbols) zero entry is =
+    let own : listed map sections mark thread symbol ≡ Some entry = cc in
+    one_below count map sections mark thread symbol entry own
+all_below count map sections (mark ∷ marks) (thread ∷ threads) (symbol ∷ symbols) (suc i) entry is = all_below count map sections marks threads symbols i entry is
+
+part_below : (count : ℕ) (local : Bool) (all : List (Option SymbolEntry)) → SomeBelow count all → AreBelow count (part local all)
+part_below count local [] each i entry is = absurd cc
+part_below count local (None ∷ more) each i entry is = part_below count local more (λ j e at. each (suc j) e at) i entry is
+part_below count local (Some s ∷ more) each i entry is = by_bound (is_bound local s) (part_below count local more (λ j e at. each (suc j) e at)) i entry is
+  where
+    by_bound : (b : Bool) → AreBelow count (part local more) → AreBelow count (cond b (s ∷ part local more) (part local more))
+    by_bound true behind zero entry is = let same : s ≡ entry = cc in subst (IsBelow count) same (each 0 s refl)
+    by_bound true behind (suc i) entry is = behind i entry is
+    by_bound false behind i entry is = behind i entry is
+
+signatures_below : (count : ℕ) (symbols : SymbolMap) (sections : LaidSections) (index : ℕ) (groups : List Group) → index + length groups ≤ count → AreBelow count (signature_entries symbols (standings symbols sections (named_targets symbols sections)) index groups)
+signatures_below count symbols sections index [] few i entry is = absurd cc
+signatures_below count symbols sections index (group ∷ groups) few i entry is =
+    by_listed (is_signature_listed symbols (standings symbols sections (named_targets symbols sections)) group.signature) (signatures_below count symbols sections (index + 1) groups (omega (arith, few))) i entry is
+  where
+    rest : List SymbolEntry
+    rest = signature_entries symbols (standings symbols sections (named_targets symbols sections)) (index + 1) groups
+
+    by_listed : (b : Bool) → AreBelow count rest → AreBelow count (cond b [] (signature_entry index group.signature ∷ []) ++ rest)
+    by_listed true behind i entry is = behind i entry is
+    by_listed false behind zero entry is =
+        let same : signature_entry index group.signature ≡ entry = cc in
+        let low : index < count = omega (arith, few) in
+        subst (IsBelow count) same low
+    by_listed false behind (suc i) entry is = behind i entry is
+
+table_below : (symbols : SymbolMap) (sections : LaidSections) → AreBelow (length (groups_of sections)) (table_in symbols sections)
+unfolding table_of
+table_below symbols sections =
+    let named = named_targets symbols sections in
+    let all = listed_all symbols sections named in
+    let count = length (groups_of sections) in
+    let each = all_below count symbols sections named.symbols named.thread_locals symbols.symbols in
+    let files = map file_entry symbols.files in
+    let own = section_entries 0 named.sections in
+    let signatures = own_signatures symbols sections named in
+    in_parts (IsBelow count) (files ++ own ++ part true all ++ signatures) (part false all)
+    (in_parts (IsBelow count) (files ++ own ++ part true all) signatures
+    (in_parts (IsBelow count) (files ++ own) (part true all)
+    (in_parts (IsBelow count) files own (files_below count symbols.files) (own_below count 0 named.sections))
+    (part_below count true all each))
+    (signatures_below count symbols sections 0 (groups_of sections) (omega arith)))
+    (part_below count false all each)
+
+index_small : (symbols : SymbolMap) (sections : LaidSections) (at : SymbolSection) → ObjectFits symbols sections → IsGroupBelow (length (groups_of sections)) at
+    → section_index_of (header_indices sections (relocations_of symbols sections)) at < 2 ^ 16
+index_small symbols sections Undefined fits below = omega arith
+index_small symbols sections Absolute fits below = omega arith
+index_small symbols sections Common fits below = omega arith
+index_small symbols sections (InGroup index) fits below =
     let few : symbol_table_index symbols sections + 3 < 2 ^ 16 = fits.header_count in
-    let below : slice_index_or (header_indices (relocations_of symbols sections)) number 0 ≤ symbol_table_index symbols sections = index_below 1 (relocations_of symbols sections) number in
+    let behind : first_header sections ≤ symbol_table_index symbols sections = next_behind (first_header sections) (relocations_of symbols sections) in
+    omega (arith, few, behind, below)
+index_small symbols sections (InSection number) fits below =
+    let few : symbol_table_index symbols sections + 3 < 2 ^ 16 = fits.header_count in
+    let low : slice_index_or (header_indices sections (relocations_of symbols sections)) number 0 ≤ symbol_table_index symbols sections = index_below (first_header sections) (relocations_of symbols sections) number in
     omega arith
 
 -- the bytes of the symbol table
 pub table_read : (symbols : SymbolMap) (sections : LaidSections) → ObjectFits symbols sections
-    → content_at (image_of symbols sections) (symbol_table_index symbols sections) ≡ Some (symbol_table_of (header_indices (relocations_of symbols sections)) (table_in symbols sections))
+    → content_at (image_of symbols sections) (symbol_table_index symbols sections) ≡ Some (symbol_table_of (header_indices sections (relocations_of symbols sections)) (table_in symbols sections))
 table_read symbols sections fits =
     content_read (image_of symbols sections) (symbol_table_index symbols sections) (symbol_table_section symbols sections) (symbol_tables_read symbols sections fits).0
 
@@ -221,7 +351,7 @@ pub symbols_read : SymbolsRead
 symbols_read symbols sections index entry fits is =
     let image = image_of symbols sections in
     let at = symbol_table_index symbols sections in
-    let headers = header_indices (relocations_of symbols sections) in
+    let headers = header_indices sections (relocations_of symbols sections) in
     let table = table_in symbols sections in
     let bytes = symbol_table_of headers table in
     let texts = string_table_of (symbol_names table) in
@@ -230,7 +360,7 @@ symbols_read symbols sections index entry fits is =
     let there = name_there (symbol_names table) index entry.name (own_name table index entry is) in
     let inside : name < length texts = begins_within texts name entry.name there in
     let small : length texts < 2 ^ 32 = fits.symbol_names_size in
-    let own = says headers name entry (fits.symbol_values index entry is) (omega arith) (index_small symbols sections entry.section fits) in
+    let own = says headers name entry (fits.symbol_values index entry is) (omega arith) (index_small symbols sections entry.section fits (table_below symbols sections index entry is)) in
     let kind = small_type entry.kind in
     record {
       symbol = symbol;
@@ -248,7 +378,7 @@ symbols_read symbols sections index entry fits is =
 pub null_symbols_read : NullSymbolsRead
 null_symbols_read symbols sections fits =
     ap (option_and_then (λ (xs : List ℕ). symbol_record xs 0)) (table_read symbols sections fits)
-    ∙ null_record (header_indices (relocations_of symbols sections)) (table_in symbols sections)
+    ∙ null_record (header_indices sections (relocations_of symbols sections)) (table_in symbols sections)
 
 record_past : (bytes : List ℕ) (number : ℕ) → length bytes < 24 * number + 24 → symbol_record bytes number ≡ None
 unfolding symbol_record
@@ -256,7 +386,7 @@ record_past bytes number past = ap (option_map symbol_in) (piece_past bytes (24 
 
 pub symbols_end : SymbolsEnd
 symbols_end symbols sections number fits past =
-    let headers = header_indices (relocations_of symbols sections) in
+    let headers = header_indices sections (relocations_of symbols sections) in
     let table = table_in symbols sections in
     let long : length (symbol_table_of headers table) ≡ 24 * (length table + 1) = table_long headers table in
     ap (option_and_then (λ (xs : List ℕ). symbol_record xs number)) (table_read symbols sections fits)

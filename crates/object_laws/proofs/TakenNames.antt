@@ -1,22 +1,27 @@
 -- How many bytes names take in string tables.
-use Rattle.std.proofs.Common.{◌≡◌, ℕ, ◌+◌, ◌*◌, ◌^◌, ◌≤◌, ◌&&◌, not, Bool, true, false, cond, List, [], ◌∷◌, ◌++◌, Option, None, Some, All, length, map, refl, ap, arith, length-append}
+use Rattle.std.proofs.Common.{◌≡◌, ℕ, ◌+◌, ◌*◌, ◌^◌, ◌≤◌, ◌&&◌, ◌||◌, not, Bool, true, false, cond, List, [], ◌∷◌, ◌++◌, Option, None, Some, All, length, map, refl, ap, arith, length-append}
 use Rattle.std.specs.Prelude.{sum_by, codes}
-use Rattle.std.proofs.lemmas.List.Elements.{All-head, All-tail}
+use Rattle.std.specs.List.{fold, list_any}
+use Rattle.std.proofs.lemmas.List.Elements.{All-nil, All-head, All-tail, All-push, All-map}
 use Rattle.std.proofs.lemmas.List.Sums.{sum_by-cons}
 use Rattle.asm_expr.specs.declared.naming.Name.{Name}
 use Rattle.asm_expr.specs.declared.naming.Name.TheVariants.{Plain, Numeric, Place}
+use Rattle.asm_frags.specs.declared.groups.Group.{Group}
+use Rattle.asm_frags.specs.Groups.{has_signature, with_group, groups_of}
 use Rattle.asm_frags.specs.SectionOf.{SectionOf}
 use Rattle.asm_symbols.specs.declared.entries.Symbol.{Symbol}
 use Rattle.asm_symbols.specs.Interning.{name_size}
 use Rattle.asm_symbols.specs.SymbolMap.{SymbolMap, names}
 use Rattle.asm_relax.specs.Settling.{LaidItem, LaidSections}
-use Rattle.elf_file.specs.Sections.{SectionEntry, relocation_section}
+use Rattle.elf_file.specs.Sections.{SectionEntry, group_section, group_bytes, relocation_section}
 use Rattle.elf_file.specs.StringTable.{ended_name, strings}
-use Rattle.elf_symbols.specs.Numbers.{NumbersOf}
-use Rattle.elf_symbols.specs.SymbolTable.{SymbolEntry, file_entry, section_entries, is_local_entry, part, text_of, needs_naming, entry_at, value_or_undefined, listed, listed_by}
+use Rattle.elf_symbols.specs.Numbers.{NumbersOf, group_symbol}
+use Rattle.elf_symbols.specs.SymbolTable.{SymbolEntry, file_entry, section_entries, is_local_entry, part, text_of, needs_naming, is_named_by_group, entry_at, value_or_undefined, listed, listed_by, signature_entry, is_signature_listed, signature_entries, standings}
+use Rattle.elf_object.specs.TableLaws.{named_targets}
 use Rattle.elf_symbols.specs.SymbolValues.{symbol_value_of}
 use Rattle.elf_object.specs.declared.relocations.Relocation.{Relocation}
-use Rattle.elf_object.specs.Sections.{source_section, relocation_bytes, with_relocations, header_count, entries_from}
+use Rattle.elf_object.specs.Sections.{source_section, relocation_bytes, with_relocations, header_count, entries_from, members_of, group_entries}
+use Rattle.object_laws.specs.SmallSources.{HasShortSignature}
 
 -- how many bytes the names of these take
 abbrev pub taken : {A : Type 0} → (A → List ℕ) → List A → ℕ
@@ -139,7 +144,7 @@ entry_taken : (symbols : SymbolMap) (sections : LaidSections) (mark thread : Boo
 unfolding listed
 entry_taken symbols sections mark thread symbol more =
     let there = value_or_undefined (symbol_value_of symbols sections symbol.meaning) in
-    one_taken (needs_naming symbol there && not mark) (entry_at symbols sections thread symbol there) more (name_size symbol.name) (text_long symbol.name)
+    one_taken (needs_naming symbol there && not (mark || is_named_by_group sections symbol there)) (entry_at symbols sections thread symbol there) more (name_size symbol.name) (text_long symbol.name)
 
 all_taken : (symbols : SymbolMap) (sections : LaidSections) (marks threads : List Bool) (own : List Symbol)
     → listed_taken (listed_by symbols sections marks threads own) ≤ sum_by name_size (names own)
@@ -161,10 +166,45 @@ symbols_taken symbols sections marks threads own =
     let few = all_taken symbols sections marks threads own in
     omega (arith, both, few)
 
+-- SIGNATURES
+
+-- the names of entries of signatures, and how many they are
+pub signatures_taken : (symbols : SymbolMap) (sections : LaidSections) (index : ℕ) (groups : List Group) → All HasShortSignature groups
+    → (taken entry_name (signature_entries symbols (standings symbols sections (named_targets symbols sections)) index groups) ≤ (2 ^ 16 + 1) * length groups) × (length (signature_entries symbols (standings symbols sections (named_targets symbols sections)) index groups) ≤ length groups)
+signatures_taken symbols sections index [] short = (omega arith, omega arith)
+signatures_taken symbols sections index (group ∷ groups) short =
+    by_listed (is_signature_listed symbols (standings symbols sections (named_targets symbols sections)) group.signature) (signatures_taken symbols sections (index + 1) groups (All-tail HasShortSignature group groups short))
+  where
+    rest : List SymbolEntry
+    rest = signature_entries symbols (standings symbols sections (named_targets symbols sections)) (index + 1) groups
+
+    own : SymbolEntry
+    own = signature_entry index group.signature
+
+    by_listed : (b : Bool) → (taken entry_name rest ≤ (2 ^ 16 + 1) * length groups) × (length rest ≤ length groups)
+        → (taken entry_name (cond b [] (own ∷ []) ++ rest) ≤ (2 ^ 16 + 1) * length (group ∷ groups)) × (length (cond b [] (own ∷ []) ++ rest) ≤ length (group ∷ groups))
+    by_listed true (bytes, few) = (omega (arith, bytes), omega (arith, few))
+    by_listed false (bytes, few) =
+        let more = taken-cons entry_name own rest in
+        let one = ended_long group.signature in
+        let most : length group.signature ≤ 2 ^ 16 = All-head HasShortSignature group groups short in
+        (omega (arith, bytes, more, one, most), omega (arith, few))
+
 -- SECTIONS
 
 abbrev pub section_name : SectionEntry → List ℕ
 section_name s = s.name
+
+-- the names of groups
+pub groups_taken : (numbers : NumbersOf) (tables : ℕ) (sections : LaidSections) (found : List (List Relocation)) (index : ℕ) (groups : List Group)
+    → taken section_name (group_entries numbers tables sections found index groups) ≡ 7 * length groups
+groups_taken numbers tables sections found index [] = refl
+groups_taken numbers tables sections found index (group ∷ groups) =
+    let made = group_section tables (group_symbol numbers index) (group_bytes group.comdat (members_of group.signature sections found)) in
+    let more : taken section_name (made ∷ group_entries numbers tables sections found (index + 1) groups) ≡ 7 + taken section_name (group_entries numbers tables sections found (index + 1) groups) =
+    taken-cons section_name made (group_entries numbers tables sections found (index + 1) groups) in
+    let rest = groups_taken numbers tables sections found (index + 1) groups in
+    omega (arith, more, rest)
 
 -- the names of a section and of its relocations
 with_taken : (numbers : NumbersOf) (tables index : ℕ) (s : SectionEntry) (own : List Relocation) → length s.name ≤ 2 ^ 16
@@ -174,7 +214,7 @@ with_taken numbers tables index s [] short =
     let all : taken section_name (s ∷ []) ≡ length (ended_name s.name) + 0 = taken-cons section_name s [] in
     omega (arith, short, one, all)
 with_taken numbers tables index s (r ∷ own) short =
-    let second = relocation_section tables index s.name (relocation_bytes numbers (r ∷ own)) in
+    let second = relocation_section s.flags tables index s.name (relocation_bytes numbers (r ∷ own)) in
     let one = ended_long s.name in
     let other = ended_long second.name in
     let long : length (codes ".rela" ++ s.name) ≡ 5 + length s.name = length-append (codes ".rela") s.name in

@@ -3,6 +3,7 @@ pub mod Limits
 pub mod FileReading
 pub mod ObjectLimits
 pub mod SymbolReading
+pub mod GroupReading
 pub mod SectionPlaces
 pub mod SmallSources
 pub mod RelocationReading

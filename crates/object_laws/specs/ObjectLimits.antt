@@ -11,7 +11,7 @@ use Rattle.elf_symbols.specs.SymbolTable.{SymbolEntry, symbol_names}
 use Rattle.elf_object.specs.Contents.{relocations_of}
 use Rattle.elf_object.specs.Image.{file_sections, image_of}
 use Rattle.elf_object.specs.Limits.{SourceFits}
-use Rattle.elf_object.specs.Sections.{next_header}
+use Rattle.elf_object.specs.Sections.{first_header, next_header}
 use Rattle.elf_object.specs.TableLaws.{table_in}
 use Rattle.object_laws.specs.Limits.{FileFits}
 
@@ -19,12 +19,12 @@ use Rattle.object_laws.specs.Limits.{FileFits}
 abbrev pub entries_of : SymbolMap → LaidSections → List SectionEntry
 entries_of symbols sections = file_sections symbols sections (relocations_of symbols sections)
 
--- where the header of the symbol table stands: behind those of the sections of the source and of their relocations
+-- where the header of the symbol table stands: behind those of groups, of the sections of the source and of their relocations
 abbrev pub symbol_table_index : SymbolMap → LaidSections → ℕ
-symbol_table_index symbols sections = next_header 1 (relocations_of symbols sections)
+symbol_table_index symbols sections = next_header (first_header sections) (relocations_of symbols sections)
 
 -- the headers, symbols, names and bytes are few enough; behind the symbol table stand the headers of the names of
--- symbols and of sections. The limits of a source keep them so: 2^26 bytes, 30,000 sections, 2^24 symbols
+-- symbols and of sections. The limits of a source keep them so: 2^26 bytes, 30,000 sections and groups, 2^24 symbols
 pub record ObjectFits (symbols : SymbolMap) (sections : LaidSections) : Type 0 where
   pub source_sections : (number : ℕ) (section : SectionOf LaidItem) → slice_get sections number ≡ Some section → SourceFits section
   pub symbol_values : (index : ℕ) (entry : SymbolEntry) → slice_get (table_in symbols sections) index ≡ Some entry → SymbolFits entry

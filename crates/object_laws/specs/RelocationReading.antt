@@ -21,18 +21,17 @@ use Rattle.object_laws.specs.FileReading.{SectionRead}
 use Rattle.object_laws.specs.ObjectLimits.{ObjectFits, symbol_table_index}
 use Rattle.object_laws.specs.SymbolReading.{header_index, ObjectSymbolRead}
 
--- the relocations of the section of this number and name: sh_info is the index of that section's header, sh_link that
--- of the symbol table's
-abbrev pub relocations_section : SymbolMap → LaidSections → ℕ → List ℕ → List Relocation → SectionEntry
-relocations_section symbols sections number name own =
-    relocation_section (symbol_table_index symbols sections) (header_index symbols sections number) name
+-- the relocations of the section of this number: sh_info is the index of that section's header, sh_link that of the symbol table's
+abbrev pub relocations_section : SymbolMap → LaidSections → ℕ → SectionOf LaidItem → List Relocation → SectionEntry
+relocations_section symbols sections number section own =
+    relocation_section section.flags.0 (symbol_table_index symbols sections) (header_index symbols sections number) section.name
     (relocation_bytes (numbers_of symbols sections (named_targets symbols sections)) own)
 
 -- behind the header of each section with relocations stands that of its relocations
 abbrev pub RelocationTablesRead : Type 0
 RelocationTablesRead = (symbols : SymbolMap) (sections : LaidSections) (number : ℕ) (section : SectionOf LaidItem) (own : List Relocation) → ObjectFits symbols sections
     → slice_get sections number ≡ Some section → slice_get (relocations_of symbols sections) number ≡ Some own → 0 < length own
-    → SectionRead (image_of symbols sections) (header_index symbols sections number + 1) (relocations_section symbols sections number section.name own)
+    → SectionRead (image_of symbols sections) (header_index symbols sections number + 1) (relocations_section symbols sections number section own)
 
 -- the relocation of this index, where the section of relocations has the header of this index
 abbrev pub read_relocation : List ℕ → ℕ → ℕ → Option RelocationRecord

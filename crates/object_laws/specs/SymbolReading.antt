@@ -19,7 +19,7 @@ use Rattle.object_laws.specs.ObjectLimits.{ObjectFits, symbol_table_index}
 
 -- the index of the header of the section of this number of the source
 abbrev pub header_index : SymbolMap → LaidSections → ℕ → ℕ
-header_index symbols sections number = slice_index_or (header_indices (relocations_of symbols sections)) number 0
+header_index symbols sections number = slice_index_or (header_indices sections (relocations_of symbols sections)) number 0
 
 -- the header of each section of the source says what that section is, and leads to its bytes
 abbrev pub SourceSectionsRead : Type 0
@@ -32,7 +32,7 @@ SourceSectionsRead = (symbols : SymbolMap) (sections : LaidSections) (number : �
 abbrev pub symbol_table_section : SymbolMap → LaidSections → SectionEntry
 symbol_table_section symbols sections =
     symbol_section (symbol_table_index symbols sections + 1) (info_in symbols sections)
-    (symbol_table_of (header_indices (relocations_of symbols sections)) (table_in symbols sections))
+    (symbol_table_of (header_indices sections (relocations_of symbols sections)) (table_in symbols sections))
 
 -- the string table of the names of symbols
 abbrev pub symbol_names_section : SymbolMap → LaidSections → SectionEntry
@@ -77,7 +77,7 @@ pub record SymbolRead (file : List ℕ) (table number : ℕ) (headers : List ℕ
 -- the symbol of this number of the object has all that the entry says
 abbrev pub ObjectSymbolRead : SymbolMap → LaidSections → ℕ → SymbolEntry → Type 0
 ObjectSymbolRead symbols sections number entry =
-    SymbolRead (image_of symbols sections) (symbol_table_index symbols sections) number (header_indices (relocations_of symbols sections)) entry
+    SymbolRead (image_of symbols sections) (symbol_table_index symbols sections) number (header_indices sections (relocations_of symbols sections)) entry
 
 -- so for each entry of the symbol table; the null symbol stands before them
 abbrev pub SymbolsRead : Type 0

@@ -16,6 +16,7 @@ pub use relocation_meanings::{
 };
 pub use relocations::{relocation_tables_read, relocations_end, relocations_read};
 pub use symbols::{
-    locals_read, null_symbols_read, objects_are_files, objects_fit, source_sections_found,
-    source_sections_read, symbol_tables_found, symbol_tables_read, symbols_end, symbols_read,
+    groups_read, groups_stand, locals_read, null_symbols_read, objects_are_files, objects_fit,
+    source_sections_found, source_sections_read, symbol_tables_found, symbol_tables_read,
+    symbols_end, symbols_read,
 };

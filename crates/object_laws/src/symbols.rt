@@ -1,5 +1,6 @@
 //! Sections and symbols are read back from the object of them (gABI, chapter 4, "Sections" and "Symbol Table").
 
+ghost use Rattle.object_laws.specs.GroupReading.{GroupsRead, GroupsStand};
 ghost use Rattle.object_laws.specs.ObjectLimits.{ObjectsAreFiles};
 ghost use Rattle.object_laws.specs.SectionPlaces.{SourceSectionsFound};
 ghost use Rattle.object_laws.specs.SmallSources.{ObjectsFit};
@@ -67,3 +68,15 @@ pub fn locals_read()
 {
     locals_first();
 }
+
+/// The header of each group, which lists just the headers of its sections and of their relocations, and names the
+/// symbol of its signature.
+pub fn groups_read()
+    ensures { GroupsRead }
+{}
+
+/// Groups are found by their type, where no section of the source has that type, and just what they list has the
+/// flag for that.
+pub fn groups_stand()
+    ensures { GroupsStand }
+{}

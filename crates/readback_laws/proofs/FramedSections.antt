@@ -7,6 +7,7 @@ use Rattle.std.proofs.lemmas.Option.{slice_get_within}
 use Rattle.asm_base.specs.declared.positions.Pos.{Pos}
 use Rattle.asm_frags.specs.declared.fields.Field.{Field}
 use Rattle.asm_frags.specs.declared.flags.SectionFlags.{SectionFlags}
+use Rattle.asm_frags.specs.declared.groups.Group.{Group}
 use Rattle.asm_frags.specs.PlainBytes.{IsBeside}
 use Rattle.asm_frags.specs.Writing.{LooseItem, LooseSection}
 use Rattle.cfi_directives.specs.declared.frames.Frame.{Frame}
@@ -56,13 +57,14 @@ pub record IsFramed (before after : List LooseSection) : Type 0 where
 
 -- a section that is extended is continued
 extended : (held now : LooseSection) (bytes : List ℕ) (fields : List Field) (items : List LooseItem) → now.name ≡ held.name → now.flags ≡ held.flags → now.kind ≡ held.kind
-    → now.entry_size ≡ held.entry_size → now.bytes ≡ held.bytes ++ bytes → now.fields ≡ held.fields ++ fields → now.items ≡ held.items ++ items
+    → now.entry_size ≡ held.entry_size → now.group ≡ held.group → now.bytes ≡ held.bytes ++ bytes → now.fields ≡ held.fields ++ fields → now.items ≡ held.items ++ items
     → now ≡ with_more held bytes fields items
-extended held now bytes fields items name flags kind entry_size all_bytes all_fields all_items =
+extended held now bytes fields items name flags kind entry_size group all_bytes all_fields all_items =
     ap (λ (x : List ℕ). record now { name = x }) name
     ∙ ap (λ (x : SectionFlags). record now { name = held.name; flags = x }) flags
     ∙ ap (λ (x : ℕ). record now { name = held.name; flags = held.flags; kind = x }) kind
     ∙ ap (λ (x : ℕ). record now { name = held.name; flags = held.flags; kind = held.kind; entry_size = x }) entry_size
+    ∙ ap (λ (x : Option Group). record now { name = held.name; flags = held.flags; kind = held.kind; entry_size = held.entry_size; group = x }) group
     ∙ ap (λ (x : List ℕ). record held { bytes = x; fields = now.fields; items = now.items }) all_bytes
     ∙ ap (λ (x : List Field). record held { bytes = held.bytes ++ bytes; fields = x; items = now.items }) all_fields
     ∙ ap (λ (x : List LooseItem). record held { bytes = held.bytes ++ bytes; fields = held.fields ++ fields; items = x }) all_items
@@ -72,7 +74,7 @@ continued held later now is more = record {
   bytes = more.bytes;
   fields = more.fields;
   items = more.items;
-  there = is ∙ ap Some (extended held now more.bytes more.fields more.items more.name more.flags more.kind more.entry_size more.all_bytes more.all_fields more.all_items);
+  there = is ∙ ap Some (extended held now more.bytes more.fields more.items more.name more.flags more.kind more.entry_size more.group more.all_bytes more.all_fields more.all_items);
   fields_behind = more.fields_behind;
   items_behind = more.items_behind;
 }
@@ -82,7 +84,7 @@ continued_not section = record {
   bytes = [];
   fields = [];
   items = [];
-  there = ap Some (extended section section [] [] [] refl refl refl refl (sym (append-nil section.bytes)) (sym (append-nil section.fields)) (sym (append-nil section.items)));
+  there = ap Some (extended section section [] [] [] refl refl refl refl refl (sym (append-nil section.bytes)) (sym (append-nil section.fields)) (sym (append-nil section.items)));
   fields_behind = All-nil _;
   items_behind = All-nil _;
 }
@@ -114,7 +116,7 @@ continued_on section found last one later =
       fields = one.fields ++ two.fields;
       items = one.items ++ two.items;
       there = two.there ∙ ap Some (extended section (with_more between two.bytes two.fields two.items) (one.bytes ++ two.bytes) (one.fields ++ two.fields)
-          (one.items ++ two.items) refl refl refl refl (append_assoc section.bytes one.bytes two.bytes)
+          (one.items ++ two.items) refl refl refl refl refl (append_assoc section.bytes one.bytes two.bytes)
           (append_assoc section.fields one.fields two.fields) (append_assoc section.items one.items two.items));
       fields_behind = All-append (λ (field : Field). length section.bytes ≤ field.offset) one.fields two.fields one.fields_behind
           (All-weaker (λ (field : Field). length (section.bytes ++ one.bytes) ≤ field.offset) (λ (field : Field). length section.bytes ≤ field.offset)

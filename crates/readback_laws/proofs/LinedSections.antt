@@ -1,7 +1,9 @@
 -- What a line table leaves of a frame table, and how few labels it brings.
 use Rattle.std.proofs.Common.{◌≡◌, ℕ, ◌+◌, ◌^◌, ◌≤◌, true, List, All, Option, None, Some, Result, Ok, length, refl, sym, ap, ◌∙◌, arith}
-use Rattle.std.specs.Prelude.{codes, slice_get}
+use Rattle.std.specs.Prelude.{codes, is_none, slice_get}
 use Rattle.std.specs.Option.{option_map_or}
+use Rattle.std.specs.Str.{bytes_eq}
+use Rattle.std.proofs.lemmas.Bool.{and_parts}
 use Rattle.std.proofs.lemmas.List.Quantifiers.{position-Some}
 use Rattle.std.proofs.lemmas.Option.{get_or_from_slice_get}
 use Rattle.std.proofs.lemmas.Slice.Eq.{bytes_eq-Decides}
@@ -36,8 +38,8 @@ frame_table_stays sections number held there named is =
     let found = position-Some (is_section_named (codes ".debug_line")) sections number held is in
     let lined : is_section_named (codes ".debug_line") held ≡ true =
     sym (ap (is_section_named (codes ".debug_line")) (get_or_from_slice_get sections number held held there)) ∙ found.1 in
-    let frames : codes ".eh_frame" ≡ held.name = (bytes_eq-Decides (codes ".eh_frame") held.name).0 named in
-    let lines : codes ".debug_line" ≡ held.name = (bytes_eq-Decides (codes ".debug_line") held.name).0 lined in
+    let frames : codes ".eh_frame" ≡ held.name = (bytes_eq-Decides (codes ".eh_frame") held.name).0 (and_parts (is_none held.group) (bytes_eq (codes ".eh_frame") held.name) named).1 in
+    let lines : codes ".debug_line" ≡ held.name = (bytes_eq-Decides (codes ".debug_line") held.name).0 (and_parts (is_none held.group) (bytes_eq (codes ".debug_line") held.name) lined).1 in
     let long : 9 ≡ 11 = ap length (frames ∙ sym lines) in
     absurd (omega (arith, long))
 

@@ -57,6 +57,7 @@ pub fn section_type(kind: u32) -> Named {
         14 => "init_array",
         15 => "fini_array",
         16 => "preinit_array",
+        17 => "group",
         _ => return Named::new(None, u64::from(kind)),
     };
     Named::new(Some(word), u64::from(kind))

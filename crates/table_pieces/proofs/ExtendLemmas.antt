@@ -40,6 +40,7 @@ extends_same held = record {
   flags = refl;
   kind = refl;
   entry_size = refl;
+  group = refl;
 }
 
 joined : {X : Type 0} (before middle after more further : List X) → middle ≡ before ++ more → after ≡ middle ++ further → after ≡ before ++ (more ++ further)
@@ -64,6 +65,7 @@ extends_on before middle after one other =
       flags = other.flags ∙ one.flags;
       kind = other.kind ∙ one.kind;
       entry_size = other.entry_size ∙ one.entry_size;
+      group = other.group ∙ one.group;
     }
 
 -- the section with a run last, if it has none
@@ -91,6 +93,7 @@ run_extends true pos held more fields behind = record {
   flags = refl;
   kind = refl;
   entry_size = refl;
+  group = refl;
 }
 run_extends false pos held more fields behind = record {
   bytes = more;
@@ -105,6 +108,7 @@ run_extends false pos held more fields behind = record {
   flags = refl;
   kind = refl;
   entry_size = refl;
+  group = refl;
 }
 
 bytes_if : (in_run : Bool) (pos : Pos) (held : LooseSection) (more : List ℕ) → Extends held (record (run_if in_run pos held) { bytes = held.bytes ++ more })
@@ -121,6 +125,7 @@ bytes_if true pos held more = record {
   flags = refl;
   kind = refl;
   entry_size = refl;
+  group = refl;
 }
 bytes_if false pos held more = record {
   bytes = more;
@@ -135,6 +140,7 @@ bytes_if false pos held more = record {
   flags = refl;
   kind = refl;
   entry_size = refl;
+  group = refl;
 }
 
 pub bytes_extend : (pos : Pos) (more : List ℕ) (held : LooseSection) → Extends held (with_bytes pos more held)
@@ -185,6 +191,7 @@ growing_extends pos section kind form held =
       flags = refl;
       kind = refl;
       entry_size = refl;
+      group = refl;
     }
 
 pub item_extends : (item : LooseItem) (held : LooseSection) → Extends held (with_item item held)
@@ -201,6 +208,7 @@ item_extends item held = record {
   flags = refl;
   kind = refl;
   entry_size = refl;
+  group = refl;
 }
 
 -- ALL SECTIONS

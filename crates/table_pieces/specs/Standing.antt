@@ -18,6 +18,7 @@ pub record Extends (before after : LooseSection) : Type 0 where
   pub flags : after.flags ≡ before.flags
   pub kind : after.kind ≡ before.kind
   pub entry_size : after.entry_size ≡ before.entry_size
+  pub group : after.group ≡ before.group
 
 -- the section of this number became such a one, and all others stay
 pub record OneExtends (section : ℕ) (before after : List LooseSection) : Type 0 where

@@ -12,6 +12,8 @@ returns c flags contents name source made files is so fit =
       layouts = c.layouts_keep_sections.ensures;
       fit = c.objects_fit.ensures;
       found = c.source_sections_found.ensures;
+      groups = c.groups_read.ensures;
+      stand = c.groups_stand.ensures;
     } in
     let end = handed_comes c.handed_statements_are_placed.ensures flags contents name source made files is in
     object_is_readable facts flags _ made.object end.names _ end.f (c.written_reads_back.ensures flags contents name source made files is so) end.comes

@@ -1,8 +1,7 @@
 -- One more entry.
 use Rattle.std.proofs.Common.{◌≡◌, ◌+◌, true, false, ap, [], ◌∷◌, Option, get_or, drop, map, option_map, subst, rules}
 use Rattle.elf_symbols.specs.declared.numbers.Standing.{Standing}
-use Rattle.elf_symbols.specs.Numbers.{standing_of}
-use Rattle.elf_symbols.specs.SymbolTable.{SymbolEntry, PutsPart, listed, listed_by, part}
+use Rattle.elf_symbols.specs.SymbolTable.{standing_of, SymbolEntry, PutsPart, listed, listed_by, part}
 use Rattle.elf_symbols.specs.Views.{symbol_view}
 use Rattle.elf_symbols.proofs.LoopSteps.{all_pushed, listed_next, listed_none, part_put, standing_put}
 use Rattle.elf_symbols.proofs.listing.put_symbols.Goals as goal

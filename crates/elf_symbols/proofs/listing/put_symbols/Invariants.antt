@@ -1,7 +1,6 @@
 -- The entries so far, and those to come, are all.
 use Rattle.std.proofs.Common.{◌≡◌, ◌++◌, true, false, drop, map}
-use Rattle.elf_symbols.specs.Numbers.{standing_of}
-use Rattle.elf_symbols.specs.SymbolTable.{part, listed_by}
+use Rattle.elf_symbols.specs.SymbolTable.{standing_of, part, listed_by}
 use Rattle.elf_symbols.specs.Views.{symbol_view}
 use Rattle.elf_symbols.proofs.listing.put_symbols.Given as goal
 

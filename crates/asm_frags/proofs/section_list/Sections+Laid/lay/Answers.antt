@@ -1,14 +1,15 @@
--- The section keeps its name, and one item of it has the address and the size.
+-- The section keeps its heading, and one item of it has the address and the size.
 use Rattle.std.proofs.Common.{◌<◌, length, ap, ◌∙◌}
 use Rattle.asm_frags.specs.Addresses.{section_laid_at}
+use Rattle.asm_frags.specs.Sound.{heading_of}
 use Rattle.asm_frags.proofs.NamedLemmas.{replaced_there}
 use Rattle.asm_frags.proofs.AddressLemmas.{changed_is}
 use Rattle.asm_frags.proofs.section_list.Sections+Laid.lay.Goals as goal
 
 pub invariant_of-self : goal.invariant_of-self
 invariant_of-self c =
-    replaced_there _ c.self.inside.sections.items c.args.section c.lay.new.self c.index_mut.result.now c.self.invariant
-    (ap (λ section. section.name) c.lay.ensures ∙ ap (λ section. section.name) c.index_mut.ensures.value)
+    replaced_there _ _ _ c.self.inside.sections.items c.args.section c.lay.new.self c.index_mut.result.now c.self.invariant
+    (ap heading_of c.lay.ensures ∙ ap heading_of c.index_mut.ensures.value)
 
 pub returns-clause-sections : goal.returns-clause-sections
 returns-clause-sections c =

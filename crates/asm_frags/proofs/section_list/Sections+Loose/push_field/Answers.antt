@@ -1,16 +1,17 @@
--- The section keeps its name, and its answer is that of all sections.
+-- The section keeps its heading, and its answer is that of all sections.
 use Rattle.std.proofs.Common.{◌≡◌, ◌<◌, Some, length, slice_get, sym, ◌∙◌, ap}
 use Rattle.std.proofs.lemmas.Option.{slice_get-get_or}
+use Rattle.asm_frags.specs.Sound.{heading_of}
 use Rattle.asm_frags.specs.Writing.{field_put}
 use Rattle.asm_frags.proofs.NamedLemmas.{replaced_there}
-use Rattle.asm_frags.proofs.PushLemmas.{field_name, put_changes}
+use Rattle.asm_frags.proofs.PushLemmas.{field_heading, put_changes}
 use Rattle.asm_frags.proofs.section_list.Sections+Loose.push_field.Goals as goal
 
 pub invariant_of-self : goal.invariant_of-self
 invariant_of-self c =
     let old = c.index_mut-held.result.now in
-    let named : c.put_field.new.self.name ≡ old.name = field_name old c.put_field.new.self c.put_field.result c.args.pos c.args.section c.args.size c.args.role c.args.form c.put_field.ensures in
-    replaced_there _ c.self.inside.sections.items c.args.section c.put_field.new.self old c.self.invariant (named ∙ ap (λ s. s.name) c.index_mut-held.ensures.value)
+    let named : heading_of c.put_field.new.self ≡ heading_of old = field_heading old c.put_field.new.self c.put_field.result c.args.pos c.args.section c.args.size c.args.role c.args.form c.put_field.ensures in
+    replaced_there _ _ _ c.self.inside.sections.items c.args.section c.put_field.new.self old c.self.invariant (named ∙ ap heading_of c.index_mut-held.ensures.value)
 
 pub returns : goal.returns
 returns c =
