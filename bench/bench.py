@@ -195,6 +195,13 @@ def sections() -> Iterator[str]:
         yield f'\t.section .text.function_{n},"ax",@progbits\n\tnop\n\tret\n'
 
 
+def groups() -> Iterator[str]:
+    """Groups of two sections each."""
+    for n in itertools.count():
+        yield f'\t.section .text.f{n},"axG",@progbits,f{n},comdat\n\t.weak f{n}\nf{n}:\tret\n'
+        yield f'\t.section .rodata.f{n},"aG",@progbits,f{n},comdat\n\t.byte 1\n'
+
+
 def chain() -> Iterator[str]:
     """Assigned symbols, each by the one before it; the first by a symbol of another object."""
     for n in itertools.count():
@@ -326,7 +333,7 @@ SIZES_IN_MIB = [1, 4, 16]
 SIZES_IN_LINES = [10_000, 100_000, 1_000_000]
 SOURCES_OF_LINES: list[tuple[Callable[[], Iterator[str]], list[int]]] = [
     (code, SIZES_IN_LINES), (functions, SIZES_IN_LINES), (frames, [100_000]), (intel, [100_000]), (programs, SIZES_IN_LINES), (data, SIZES_IN_LINES), (relocations, SIZES_IN_LINES),
-    (distances, [100_000]), (fills, [100_000]), (alignments, [100_000]), (jumps, [400_000]), (cascade, [10_000]), (leb128, [64_000]), (sections, [60_000]),
+    (distances, [100_000]), (fills, [100_000]), (alignments, [100_000]), (jumps, [400_000]), (cascade, [10_000]), (leb128, [64_000]), (sections, [60_000]), (groups, [50_000]),
     (chain, [20_000]), (chain_back, [20_000]), (late_chain, [16_000]), (sums, [10_000]), (calls, [20_000]), (macros, [40_000]), (copies, [4]), (zeros, [3]),
     (unlettered, [6]), (cancelling, [300_000]), (assigned, [100_000]), (unsigned_numbers, [300_000]), (signed_numbers, [300_000]), (byte_lines, [300_000]), (debug, [100_000, 1_000_000]), (loc, [1_000_000]),
     (empty, [1]), (space, [16]),
