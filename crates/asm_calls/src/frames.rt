@@ -90,6 +90,8 @@ fn write_added(alloc: Global, out: &mut Vec<u8>) -> io::Result<()> {
         section: 2,
         start,
         stop: None,
+        personality: None,
+        lsda: None,
         ops: PlacedOps::new(alloc),
     });
     match added {

@@ -1,5 +1,5 @@
 -- What a `.cfi_` directive changes: the procedures, and of the symbols what naming its expressions does.
-use Rattle.std.proofs.Common.{◌≡◌, ℕ, Bool, true, false, cond, List, [], ◌∷◌, map, Result, Ok, Err, refl, sym, ap, ◌∙◌, subst, length, arith}
+use Rattle.std.proofs.Common.{◌≡◌, ℕ, Bool, true, false, cond, List, [], ◌∷◌, map, Option, Result, Ok, Err, refl, ap, ◌∙◌, length, arith}
 use Rattle.std.specs.Prelude.{◌&&◌, ◌||◌, nat_le, codes}
 use Rattle.std.specs.Result.{IfOk}
 use Rattle.std.proofs.lemmas.Bool.{le-leb}
@@ -17,15 +17,20 @@ use Rattle.asm_operands.specs.Operands.{operands_of, is_name, each}
 use Rattle.asm_operands.specs.Results.{all_steps}
 use Rattle.asm_symbols.specs.Interning.{is_within_limits}
 use Rattle.asm_uses.specs.declared.tables.Naming.{Naming}
+use Rattle.asm_symbols.specs.declared.entries.Spot.{Spot}
+use Rattle.asm_uses.specs.Places.{name_here, end_naming}
 use Rattle.asm_uses.specs.Tables.{Table, with_trees, are_meant, naming_of, allowed}
 use Rattle.asm_values.specs.KnownOperands.{KnownOperands, known_operands}
-use Rattle.asm_values.specs.State.{Placed, with_names, here, known_here}
+use Rattle.asm_values.specs.State.{Placed, with_names, with_table, here, known_here}
 use Rattle.asm_words.specs.declared.directives.FrameDirective.{FrameDirective}
 use Rattle.asm_words.specs.declared.directives.FrameDirective.TheVariants as frame
 use Rattle.cfi_directives.specs.declared.faults.CfiCause.{CfiCause}
 use Rattle.cfi_directives.specs.declared.faults.CfiCause.TheVariants.{OutOfRange, CfiOutsideProcedure, UnbalancedCfiState}
 use Rattle.cfi_directives.specs.declared.lines.CfiLine.{CfiLine}
-use Rattle.cfi_directives.specs.declared.lines.CfiLine.TheVariants.{StartProc, EndProc, Row}
+use Rattle.cfi_directives.specs.declared.lines.CfiLine.TheVariants.{StartProc, EndProc, Row, Point}
+use Rattle.cfi_directives.specs.declared.frames.Pointer.{Pointer}
+use Rattle.cfi_directives.specs.declared.lines.PointerKind.{PointerKind}
+use Rattle.cfi_directives.specs.declared.lines.PointerKind.TheVariants.{Personality, Lsda}
 use Rattle.cfi_directives.specs.declared.lines.RowDirective.TheVariants as row
 use Rattle.cfi_directives.specs.declared.registers.DwarfRegister.{DwarfRegister}
 use Rattle.cfi_directives.specs.Procedures.{Procedures}
@@ -39,7 +44,8 @@ use Rattle.asm_frames.specs.declared.words.SlotWord.TheVariants as slot
 use Rattle.asm_frames.specs.Keeping.{line_here, OnlyNames}
 use Rattle.asm_frames.specs.Lines.{signed, slot_row, offset_row, rule_row}
 use Rattle.asm_frames.specs.Operands.{register_in, next_register, one_register, two_registers}
-use Rattle.asm_frames.specs.Placing.{with_procedures, taken_here, refused_by, end_taking, take_named, taken_over, take_line, take_rule, place_bare, place_sections, place_offset, place_slot, place_cfa_register, place_register, place_each, place_some, place_rules, place_frame}
+use Rattle.asm_frames.specs.Placing.{with_procedures, taken_here, refused_by, end_taking, take_named, taken_over, take_line, take_rule, place_bare, place_sections, place_offset, place_slot, place_cfa_register, place_register, place_each, place_some, place_rules, place_pointer, place_frame}
+use Rattle.asm_frames.specs.Pointers.{pointer_in, keeps_place}
 
 -- what holds of all that a step makes
 record Leaves {A E : Type 0} (P : A → Type 0) (result : Result A E) : Type 0 where
@@ -56,21 +62,17 @@ after : {A B E : Type 0} {Q : B → Type 0} (r : Result A E) {f : A → Result B
 after (Ok x) later = later x
 after (Err fault) later = refused fault
 
--- where names are allowed the table stays
-same_table : (naming : Naming) (table next : Table) → allowed naming table ≡ Ok next → next ≡ table
-unfolding allowed
-same_table naming table next is = by (naming.meant && (nat_le (length table.symbols.symbols) naming.before || is_within_limits table.symbols)) is
-  where
-    by : (test : Bool) → cond test (Ok table) (Err BadSymbolUse) ≡ Ok next → next ≡ table
-    by true same = cc
-    by false same = cc
-
 -- where no name comes the table is allowed as it is
 nothing_named : (table : Table) → allowed (naming_of [] table) table ≡ Ok table
 unfolding allowed are_meant
 nothing_named table =
     ap (λ few. cond (few || is_within_limits table.symbols) (Ok table) (Err BadSymbolUse))
     (le-leb (length table.symbols.symbols) (length table.symbols.symbols) (omega arith))
+
+-- names that are allowed, where no form keeps the place
+end_allowed : (pos : Pos) (naming : Naming) (spot : Spot) (table next : Table) → allowed naming table ≡ Ok next → end_naming pos naming spot false table ≡ Ok next
+unfolding name_here
+end_allowed pos naming spot table next is = ap (λ (names : Result Table PlaceCause). names >>= name_here pos spot false) is
 
 -- a directive that is taken in front of others
 taken_more : (placed : Placed) (line : CfiLine) (lines : List CfiLine) (procedures next last : Procedures) → taken line (here placed).place procedures ≡ Ok next
@@ -80,14 +82,15 @@ taken_more placed line lines procedures next last is later =
 
 -- what a motive needs to hold of what is placed
 module _ (P : Placed → Type 0) (pos : Pos) (placed : Placed)
-    (holds : (trees : List Tree) (lines : List CfiLine) (procedures : Procedures) → taken_from placed.procedures (map (line_here placed) lines) ≡ Ok procedures
-    → allowed (naming_of trees placed.table) (with_names pos trees placed).table ≡ Ok (with_names pos trees placed).table
-    → P (with_procedures (with_names pos trees placed) procedures)) where
+    (holds : (trees : List Tree) (lines : List CfiLine) (procedures : Procedures) (keeps : Bool) (table : Table)
+    → taken_from placed.procedures (map (line_here placed) lines) ≡ Ok procedures
+    → (let named = with_names pos trees placed in end_naming pos (naming_of trees placed.table) (here named) keeps named.table ≡ Ok table)
+    → P (with_procedures (with_table (with_names pos trees placed) table) procedures)) where
   -- a directive without expressions
   unnamed : (lines : List CfiLine) (procedures : Procedures) → taken_from placed.procedures (map (line_here placed) lines) ≡ Ok procedures → P (with_procedures placed procedures)
   unfolding with_trees
   unnamed lines procedures is =
-      holds [] lines procedures is (nothing_named placed.table)
+      holds [] lines procedures false placed.table is (end_allowed pos (naming_of [] placed.table) (here placed) placed.table placed.table (nothing_named placed.table))
 
   line_keeps : (line : CfiLine) → Leaves P (take_line line placed)
   unfolding take_line
@@ -129,9 +132,8 @@ module _ (P : Placed → Type 0) (pos : Pos) (placed : Placed)
       by : (made : Result Procedures CfiCause) → taken_here line named ≡ made → (names : Result Table PlaceCause) → allowed naming named.table ≡ names
           → Leaves P (end_taking named names made)
       by (Ok procedures) took (Ok table) is =
-          made _ (subst (λ (next : Table). P (record named { table = next; procedures = procedures })) (sym (same_table naming named.table table is))
-          (holds trees (line ∷ []) procedures (taken_more placed line [] placed.procedures procedures procedures took refl)
-          (subst (λ (next : Table). allowed naming named.table ≡ Ok next) (same_table naming named.table table is) is)))
+          made _ (holds trees (line ∷ []) procedures false table (taken_more placed line [] placed.procedures procedures procedures took refl)
+          (end_allowed pos naming (here named) named.table table is))
       by (Ok procedures) took (Err fault) is = refused _
       by (Err cause) took names is = named_refused cause names
 
@@ -162,6 +164,36 @@ module _ (P : Placed → Type 0) (pos : Pos) (placed : Placed)
           → Leaves P ((r >>= λ trees. up_to_three_forms (known_here (named trees)) trees >>= λ forms. up_to_three_constants forms >>= λ values. Ok (given_by trees values)) >>= take)
       by (Ok trees) = by_forms trees (up_to_three_forms (known_here (named trees)) trees)
       by (Err fault) = refused _
+
+  -- a pointer is taken behind the names of its expressions
+  point_keeps : (trees : List Tree) (line : CfiLine) (keeps : Bool) (table : Table)
+      → (let named = with_names pos trees placed in end_naming pos (naming_of trees placed.table) (here named) keeps named.table ≡ Ok table)
+      → Leaves P (take_line line (with_table (with_names pos trees placed) table))
+  unfolding take_line
+  point_keeps trees line keeps table is = by (taken_here line (with_table (with_names pos trees placed) table)) refl
+    where
+      named : Placed
+      named = with_table (with_names pos trees placed) table
+
+      by : (made : Result Procedures CfiCause) → taken_here line named ≡ made → Leaves P (taken_over named made)
+      by (Ok procedures) took = made _ (holds trees (line ∷ []) procedures keeps table (taken_more placed line [] placed.procedures procedures procedures took refl) is)
+      by (Err cause) took = refused _
+
+  ended_keeps : (kind : PointerKind) (trees : List Tree) (pointer : Option Pointer) (keeps : Bool) (names : Result Table PlaceCause)
+      → (let named = with_names pos trees placed in end_naming pos (naming_of trees placed.table) (here named) keeps named.table ≡ names)
+      → Leaves P (names >>= λ table. take_line (Point kind pointer) (with_table (with_names pos trees placed) table))
+  ended_keeps kind trees pointer keeps (Ok table) is = point_keeps trees (Point kind pointer) keeps table is
+  ended_keeps kind trees pointer keeps (Err fault) is = refused _
+
+  -- a directive of a pointer
+  pointer_keeps : (kind : PointerKind) (tokens : List SpelledToken) → Leaves P (place_pointer kind pos tokens placed)
+  unfolding place_pointer
+  pointer_keeps kind tokens =
+      after (up_to_three_trees 2 (operands_of tokens))
+      (λ trees. after (up_to_three_forms (known_here (with_names pos (up_to_three_listed trees) placed)) trees)
+      (λ forms. after (pointer_in forms)
+      (λ pointer. ended_keeps kind (up_to_three_listed trees) pointer
+      (keeps_place (known_here (with_names pos (up_to_three_listed trees) placed)).place forms.second) _ refl)))
 
   offset_keeps : (word : OffsetWord) (tokens : List SpelledToken) → Leaves P (place_offset word pos tokens placed)
   unfolding place_offset
@@ -226,6 +258,8 @@ module _ (P : Placed → Type 0) (pos : Pos) (placed : Placed)
   by_word frame.Restore tokens = rules_keep rule.Restore tokens
   by_word frame.Undefined tokens = rules_keep rule.Undefined tokens
   by_word frame.SameValue tokens = rules_keep rule.SameValue tokens
+  by_word frame.Personality tokens = pointer_keeps Personality tokens
+  by_word frame.Lsda tokens = pointer_keeps Lsda tokens
 
   -- what holds of all that a directive may leave holds of what it places
   pub frame_keeps : (directive : FrameDirective) (tokens : List SpelledToken) → IfOk (place_frame directive pos tokens placed) P
@@ -236,5 +270,14 @@ pub only_names : (directive : FrameDirective) (pos : Pos) (tokens : List Spelled
     → IfOk (place_frame directive pos tokens placed) (OnlyNames pos placed)
 only_names directive pos tokens placed =
     frame_keeps (OnlyNames pos placed) pos placed
-    (λ trees lines procedures taken names. record { trees = trees; lines = lines; procedures = procedures; names = names; taken = taken; is = refl })
+    (λ trees lines procedures keeps table taken names. record {
+      trees = trees;
+      lines = lines;
+      procedures = procedures;
+      keeps = keeps;
+      table = table;
+      names = names;
+      taken = taken;
+      is = refl;
+    })
     directive tokens

@@ -2,5 +2,6 @@
 pub mod Registers
 pub mod Operands
 pub mod Lines
+pub mod Pointers
 pub mod Placing
 pub mod Keeping

@@ -6,18 +6,25 @@ use Rattle.asm_base.specs.Refusals.{◌>>=◌}
 use Rattle.asm_base.specs.Tokens.{SpelledToken}
 use Rattle.asm_operands.specs.declared.place_faults.PlaceCause.{PlaceCause}
 use Rattle.asm_operands.specs.declared.place_faults.PlaceCause.TheVariants as placing
+use Rattle.asm_expr.specs.Forms.{Form}
+use Rattle.asm_operands.specs.declared.up_to_three.UpToThree.{UpToThree}
+use Rattle.asm_operands.specs.Expressions.{up_to_three_listed, up_to_three_trees, up_to_three_forms}
 use Rattle.asm_operands.specs.Operands.{operands_of, is_name, each}
 use Rattle.asm_operands.specs.Results.{all_steps}
 use Rattle.asm_uses.specs.declared.tables.Naming.{Naming}
-use Rattle.asm_uses.specs.Tables.{Table, allowed}
+use Rattle.asm_uses.specs.Places.{end_naming}
+use Rattle.asm_uses.specs.Tables.{Table, allowed, naming_of}
 use Rattle.asm_values.specs.KnownOperands.{known_operands}
-use Rattle.asm_values.specs.State.{Placed, with_table, here, known_here}
+use Rattle.asm_values.specs.State.{Placed, with_names, with_table, here, known_here}
 use Rattle.asm_words.specs.declared.directives.FrameDirective.{FrameDirective}
 use Rattle.asm_words.specs.declared.directives.FrameDirective.TheVariants as frame
 use Rattle.cfi_directives.specs.declared.faults.CfiCause.{CfiCause}
 use Rattle.cfi_directives.specs.declared.faults.CfiCause.TheVariants.{OutOfRange, CfiOutsideProcedure, UnbalancedCfiState}
 use Rattle.cfi_directives.specs.declared.lines.CfiLine.{CfiLine}
-use Rattle.cfi_directives.specs.declared.lines.CfiLine.TheVariants.{StartProc, EndProc, Row}
+use Rattle.cfi_directives.specs.declared.lines.CfiLine.TheVariants.{StartProc, EndProc, Row, Point}
+use Rattle.cfi_directives.specs.declared.frames.Pointer.{Pointer}
+use Rattle.cfi_directives.specs.declared.lines.PointerKind.{PointerKind}
+use Rattle.cfi_directives.specs.declared.lines.PointerKind.TheVariants.{Personality, Lsda}
 use Rattle.cfi_directives.specs.declared.lines.RowDirective.TheVariants as row
 use Rattle.cfi_directives.specs.declared.registers.DwarfRegister.{DwarfRegister}
 use Rattle.cfi_directives.specs.Procedures.{Procedures}
@@ -29,6 +36,7 @@ use Rattle.asm_frames.specs.declared.words.RuleWord.TheVariants as rule
 use Rattle.asm_frames.specs.declared.words.SlotWord.{SlotWord}
 use Rattle.asm_frames.specs.declared.words.SlotWord.TheVariants as slot
 use Rattle.asm_frames.specs.Lines.{signed, slot_row, offset_row, rule_row}
+use Rattle.asm_frames.specs.Pointers.{pointer_in, keeps_place}
 use Rattle.asm_frames.specs.Operands.{register_in, next_register, one_register, two_registers}
 
 -- the fault of a directive as one of placing
@@ -124,6 +132,21 @@ place_some word (operand ∷ operands) placed = place_each word (operand ∷ ope
 unfoldable pub place_rules : RuleWord → List SpelledToken → Placed → Result Placed PlaceCause
 place_rules word tokens placed = place_some word (operands_of tokens) placed
 
+-- the symbol of the place is kept, and the pointer taken where the names of operands are allowed
+abbrev pub end_pointer : PointerKind → Pos → Naming → UpToThree Form → Placed → Result Placed PlaceCause
+end_pointer kind pos naming forms named =
+    pointer_in forms >>= λ pointer.
+    end_naming pos naming (here named) (keeps_place (known_here named).place forms.second) named.table >>= λ table.
+    take_line (Point kind pointer) (with_table named table)
+
+-- a directive of a pointer: an encoding, which has to be known, and what the pointer leads to
+unfoldable pub place_pointer : PointerKind → Pos → List SpelledToken → Placed → Result Placed PlaceCause
+place_pointer kind pos tokens placed =
+    up_to_three_trees 2 (operands_of tokens) >>= λ trees.
+    let named = with_names pos (up_to_three_listed trees) placed in
+    up_to_three_forms (known_here named) trees >>= λ forms.
+    end_pointer kind pos (naming_of (up_to_three_listed trees) placed.table) forms named
+
 -- a `.cfi_` directive
 unfoldable pub place_frame : FrameDirective → Pos → List SpelledToken → Placed → Result Placed PlaceCause
 place_frame frame.StartProc pos tokens placed = place_bare (StartProc pos) tokens placed
@@ -142,3 +165,5 @@ place_frame frame.RestoreState pos tokens placed = place_bare (Row row.RestoreSt
 place_frame frame.Restore pos tokens placed = place_rules rule.Restore tokens placed
 place_frame frame.Undefined pos tokens placed = place_rules rule.Undefined tokens placed
 place_frame frame.SameValue pos tokens placed = place_rules rule.SameValue tokens placed
+place_frame frame.Personality pos tokens placed = place_pointer Personality pos tokens placed
+place_frame frame.Lsda pos tokens placed = place_pointer Lsda pos tokens placed

@@ -9,13 +9,14 @@ ghost use Rattle.asm_frames.specs.Placing as spec;
 
 use crate::offsets::{place_offset, place_slot};
 use crate::operands::{one_register, register_in, registers, two_registers};
+use crate::pointers::place_pointer;
 use crate::taking::take_line;
 use crate::words::{OffsetWord, RuleWord, SlotWord, rule_row};
 use asm_base::{Pos, Token};
 use asm_operands::{Operands, PlaceCause, PlaceFault, is_name};
 use asm_values::Assembler;
 use asm_words::FrameDirective;
-use cfi_directives::{CfiLine, DwarfRegister, RowDirective};
+use cfi_directives::{CfiLine, DwarfRegister, PointerKind, RowDirective};
 
 /// A directive without operands.
 fn place_bare(assembler: &mut Assembler, line: CfiLine, tokens: &[Token]) -> Result<(), PlaceFault>
@@ -178,5 +179,9 @@ pub fn place_frame(
         FrameDirective::Restore => place_rules(assembler, RuleWord::Restore, tokens),
         FrameDirective::Undefined => place_rules(assembler, RuleWord::Undefined, tokens),
         FrameDirective::SameValue => place_rules(assembler, RuleWord::SameValue, tokens),
+        FrameDirective::Personality => {
+            place_pointer(assembler, PointerKind::Personality, pos, tokens)
+        }
+        FrameDirective::Lsda => place_pointer(assembler, PointerKind::Lsda, pos, tokens),
     }
 }

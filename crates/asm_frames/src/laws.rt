@@ -9,8 +9,8 @@ ghost use Rattle.asm_frames.specs.Keeping.{OnlyNames};
 ghost use Rattle.asm_frames.specs.Placing.{place_frame};
 
 /// A directive changes the procedures, by directives that are taken where it stands, and of the symbols
-/// what naming its expressions does. Sections, the current one and those to come back to, the syntax and
-/// the notes stay.
+/// what naming its expressions does, and the place that a pointer leads to. Sections, the current one and
+/// those to come back to, the syntax and the notes stay.
 pub fn frame_directives_keep_all_else()
     ensures { (directive : Word) (pos : Position) (tokens : List SpelledToken) (placed : State)
         → IfOk (place_frame directive pos tokens placed) (OnlyNames pos placed) }

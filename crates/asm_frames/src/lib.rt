@@ -5,6 +5,7 @@ mod frames;
 mod laws;
 mod offsets;
 mod operands;
+mod pointers;
 mod registers;
 mod taking;
 mod words;

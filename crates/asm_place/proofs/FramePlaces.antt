@@ -1,5 +1,5 @@
 -- Directives of frame tables and of line tables keep it so that all places stand in their sections.
-use Rattle.std.proofs.Common.{◌≡◌, ℕ, List, All, map, Result, Ok, sym, subst}
+use Rattle.std.proofs.Common.{◌≡◌, ℕ, List, All, length, map, Result, Ok, sym, subst, arith}
 use Rattle.std.specs.Result.{IfOk}
 use Rattle.std.proofs.lemmas.List.Elements.{All-weaker}
 use Rattle.std.proofs.lemmas.Result.{IfOk-at_ok}
@@ -7,7 +7,7 @@ use Rattle.asm_base.specs.declared.positions.Pos.{Pos}
 use Rattle.asm_base.specs.Tokens.{SpelledToken}
 use Rattle.asm_frags.specs.Writing.{LooseSection}
 use Rattle.asm_uses.specs.Tables.{naming_of}
-use Rattle.asm_values.specs.State.{Placed, with_names, here}
+use Rattle.asm_values.specs.State.{Placed, with_names, with_table, here}
 use Rattle.asm_words.specs.declared.directives.FrameDirective.{FrameDirective}
 use Rattle.cfi_directives.specs.declared.frames.Frame.{Frame}
 use Rattle.cfi_directives.specs.declared.lines.CfiLine.{CfiLine}
@@ -22,7 +22,8 @@ use Rattle.asm_operands.specs.declared.place_faults.PlaceCause.{PlaceCause}
 use Rattle.asm_place.specs.SymbolPlaces.{HasItems, ProcedureStands, PlacesStand}
 use Rattle.asm_place.proofs.Walks.{TablesKeep, known, weaker}
 use Rattle.asm_place.proofs.TakenPlaces.{HasPlaces, HavePlaces, frames_have, have_frames, lines_have}
-use Rattle.asm_place.proofs.SymbolTables.{Allows, allowed_stand}
+use Rattle.asm_place.proofs.OwnFields.{fields_more}
+use Rattle.asm_place.proofs.SymbolTables.{Allows, allowed_stand, end_stand}
 use Rattle.asm_place.proofs.PlaceSteps.{count, Stays, Walks, names_gain, spot_stands}
 
 module _ (sections : List LooseSection) where
@@ -55,23 +56,26 @@ lines_stand placed lines last stands is =
 
 -- what a frame directive changes stands
 only_stays : (pos : Pos) (placed after : Placed) → PlacesStand placed → (only : OnlyNames pos placed after)
-    → Stays placed (with_procedures (with_names pos only.trees placed) only.procedures)
+    → Stays placed (with_procedures (with_table (with_names pos only.trees placed) only.table) only.procedures)
 only_stays pos placed after stands only =
     let named = with_names pos only.trees placed in
     let names = names_gain pos only.trees placed stands in
     let allows = IfOk-at_ok (Allows named.sections (count placed) named.table) only.names
-    (allowed_stand named.sections (naming_of only.trees placed.table) named.table).holds in
+    (end_stand named.sections pos (naming_of only.trees placed.table) (here named) only.keeps named.table
+    (λ last. spot_stands placed.sections placed.current stands.current)).holds in
+    let more = names.more in
+    let further = allows.more in
     record {
       grows = names.grows;
-      more = names.more;
+      more = omega (arith, more, further);
       stands = record {
         current = stands.current;
         previous = stands.previous;
         stack = stands.stack;
         first = stands.first;
-        symbols = names.stands.symbols;
+        symbols = allows.kept names.stands.symbols;
         procedures = lines_stand placed only.lines only.procedures stands only.taken;
-        fields = names.stands.fields;
+        fields = fields_more (count named) (length only.table.symbols.symbols) further placed.sections names.stands.fields;
       };
       fits = λ fit. allows.few (λ le. names.alike le fit);
     }

@@ -9,16 +9,19 @@ use Rattle.cfi_directives.specs.declared.faults.CfiCause.TheVariants.{Unbalanced
 use Rattle.cfi_directives.specs.declared.frames.Frame.{Frame}
 use Rattle.cfi_directives.specs.declared.frames.PlacedOp.{PlacedOp}
 use Rattle.cfi_directives.specs.declared.lines.CfiLine.{CfiLine}
-use Rattle.cfi_directives.specs.declared.lines.CfiLine.TheVariants.{StartProc, EndProc, Row}
+use Rattle.cfi_directives.specs.declared.lines.CfiLine.TheVariants.{StartProc, EndProc, Row, Point}
+use Rattle.cfi_directives.specs.declared.frames.Pointer.{Pointer}
+use Rattle.cfi_directives.specs.declared.lines.PointerKind.{PointerKind}
+use Rattle.cfi_directives.specs.declared.lines.PointerKind.TheVariants.{Personality, Lsda}
 use Rattle.asm_base.specs.declared.places.Place.{Place}
 use Rattle.asm_base.specs.declared.places.SectionPlace.{SectionPlace}
 use Rattle.cfi_rows.specs.declared.rows.CfiOp.{CfiOp}
 use Rattle.cfi_directives.specs.Meant.{stop_of}
 use Rattle.cfi_directives.specs.Order.{IsUpTo, last_of, last_place, IsReached}
-use Rattle.cfi_directives.specs.Procedures.{Procedures, frames_of, with_stop, cfa_offset}
+use Rattle.cfi_directives.specs.Procedures.{Procedures, frames_of, with_pointer, with_stop, cfa_offset}
 use Rattle.cfi_directives.specs.Rows.{rows_after}
 use Rattle.cfi_directives.specs.Saying.{said}
-use Rattle.cfi_directives.specs.Taking.{frame_in, with_op, started, ended, put, taken, taken_from}
+use Rattle.cfi_directives.specs.Taking.{frame_in, with_op, started, ended, pointed, put, taken, taken_from}
 use Rattle.asm_values.specs.State.{Placed, here}
 use Rattle.asm_frames.specs.Keeping.{line_here}
 use Rattle.asm_base.specs.Refusals.{◌>>=◌}
@@ -107,6 +110,16 @@ module _ (Q : ℕ → Place → Type 0) where
       (λ frame is. op_by placed frame (is_some (rows_after (frame.ops ++ placed ∷ []))) is.has (same_here frame.section at is.same here)))
       (λ frame has. made _ (record { closed = all; begun = has }))
 
+  -- a pointer has no place
+  pointed_has : (kind : PointerKind) (pointer : Option Pointer) (frame : Frame) → HasPlaces frame → HasPlaces (with_pointer kind pointer frame)
+  pointed_has Personality pointer frame has = record { start = has.start; stop = has.stop; ops = has.ops }
+  pointed_has Lsda pointer frame has = record { start = has.start; stop = has.stop; ops = has.ops }
+
+  point_has : (kind : PointerKind) (pointer : Option Pointer) (at : SectionPlace) (closed : List Frame) (begun : Option Frame) → All HasPlaces closed → IfSome begun HasPlaces
+      → Fine HavePlaces (pointed kind pointer at (record { closed = closed; begun = begun }))
+  point_has kind pointer at closed begun all holds =
+      step (open_has at.section begun holds) (λ frame is. made _ (record { closed = all; begun = pointed_has kind pointer frame is.has }))
+
   -- a directive keeps it so, where it holds of its place
   pub taken_has : (line : CfiLine) (at : SectionPlace) (procedures : Procedures) → Q at.section at.place → HavePlaces procedures
       → Fine HavePlaces (taken line at procedures)
@@ -114,6 +127,7 @@ module _ (Q : ℕ → Place → Type 0) where
   taken_has EndProc at procedures here have = end_has at procedures.closed procedures.begun here have.closed have.begun
   taken_has (Row directive) at procedures here have =
       after (said (cfa_offset procedures.begun) directive) (λ op. put_has at op procedures.closed procedures.begun here have.closed have.begun)
+  taken_has (Point kind pointer) at procedures here have = point_has kind pointer at procedures.closed procedures.begun have.closed have.begun
 
   -- and so do directives, one after the other at one place
   pub lines_have : (placed : Placed) → Q (here placed).place.section (here placed).place.place → (lines : List CfiLine) (procedures : Procedures)
@@ -146,6 +160,7 @@ module _ (at : SectionPlace) where
   begun_before (Row directive) closed (Some frame) there =
       after (said (cfa_offset (Some frame)) directive)
       (λ op. step (before_by frame (frame.section == at.section) (with_op (record { place = at.place; op = op })) refl there) (λ more before. made _ before))
+  begun_before (Point kind pointer) closed (Some frame) there = before_by frame (frame.section == at.section) _ refl there
 
   pub reached_there : (line : CfiLine) (procedures : Procedures) → IfSome procedures.begun (λ frame. frame.section ≡ at.section → IsBefore frame)
       → Fine (λ next. IsReached procedures at) (taken line at procedures)

@@ -54,6 +54,10 @@ pub enum FrameDirective {
     Restore,
     Undefined,
     SameValue,
+    /// The routine that unwinds through the procedure.
+    Personality,
+    /// The data for that routine.
+    Lsda,
 }
 
 /// What a directive does; several names may have one.
@@ -125,7 +129,7 @@ macro_rules! directives {
 
 /// The names of the GNU as manual, chapter 7, "Assembler Directives".
 #[rattlefmt::skip]
-pub static DIRECTIVES: [DirectiveRow; 69] = directives! {
+pub static DIRECTIVES: [DirectiveRow; 71] = directives! {
     b".byte                   " 5  Directive::Data(FieldSize::One);
     b".long                   " 5  Directive::Data(FieldSize::Four);
     b".quad                   " 5  Directive::Data(FieldSize::Eight);
@@ -195,6 +199,8 @@ pub static DIRECTIVES: [DirectiveRow; 69] = directives! {
     b".cfi_undefined          " 14 Directive::Frame(FrameDirective::Undefined);
     b".cfi_same_value         " 15 Directive::Frame(FrameDirective::SameValue);
     b".loc                    " 4  Directive::Loc;
+    b".cfi_personality        " 16 Directive::Frame(FrameDirective::Personality);
+    b".cfi_lsda               " 9  Directive::Frame(FrameDirective::Lsda);
 };
 
 /// The number of the row of each slot, or 255 where no name has the slot.
@@ -209,12 +215,12 @@ pub static DIRECTIVE_SLOTS: [u8; 256] = [
     255,  64,  63,  20, 255, 255, 255, 255, 255,  46, 255,  47,  15, 255, 255, 255,
     255,   9, 255, 255, 255, 255,  13, 255,  24, 255, 255,  18, 255, 255,  28, 255,
      10, 255, 255, 255, 255,   8, 255,  41, 255,  38,  17, 255, 255, 255,  21, 255,
-    255, 255, 255, 255, 255, 255, 255, 255, 255, 255,  36, 255, 255, 255, 255, 255,
+    255,  69, 255, 255, 255, 255, 255, 255, 255, 255,  36, 255, 255, 255, 255, 255,
      53,  27,  34, 255, 255,  43, 255, 255, 255, 255,  12, 255, 255, 255,   5, 255,
     255, 255, 255, 255, 255, 255, 255,  11,  29,  55, 255,   4, 255, 255,  40, 255,
     255, 255, 255,  54,  52, 255, 255, 255, 255, 255, 255, 255, 255, 255, 255, 255,
     255, 255, 255, 255, 255, 255, 255, 255, 255, 255,  61, 255, 255,  68,  33, 255,
-    255, 255,  56,   6, 255,  44, 255, 255, 255, 255, 255,  50, 255,  23, 255, 255,
+    255, 255,  56,   6, 255,  44, 255, 255, 255, 255, 255,  50, 255,  23,  70, 255,
     255, 255, 255, 255, 255, 255, 255, 255, 255, 255,   1, 255,  62, 255, 255,  25,
 ];
 

@@ -12,17 +12,19 @@ use Rattle.cfi_directives.specs.declared.faults.CfiCause.{CfiCause}
 use Rattle.cfi_directives.specs.declared.faults.CfiCause.TheVariants.{OutOfRange, CfiOutsideProcedure, UnbalancedCfiState}
 use Rattle.cfi_directives.specs.declared.frames.Frame.{Frame}
 use Rattle.cfi_directives.specs.declared.frames.PlacedOp.{PlacedOp}
+use Rattle.cfi_directives.specs.declared.frames.Pointer.{Pointer}
+use Rattle.cfi_directives.specs.declared.lines.PointerKind.{PointerKind}
 use Rattle.cfi_directives.specs.declared.lines.CfiLine.{CfiLine}
-use Rattle.cfi_directives.specs.declared.lines.CfiLine.TheVariants.{StartProc, EndProc, Row}
+use Rattle.cfi_directives.specs.declared.lines.CfiLine.TheVariants.{StartProc, EndProc, Row, Point}
 use Rattle.cfi_directives.specs.declared.lines.RowDirective.{RowDirective}
 use Rattle.cfi_directives.specs.declared.lines.RowDirective.TheVariants.{DefCfa, DefCfaRegister, DefCfaOffset, AdjustCfaOffset, Offset, RelOffset, ValOffset, Register, RememberState, RestoreState, Restore, Undefined, SameValue}
 use Rattle.asm_base.specs.declared.places.SectionPlace.{SectionPlace}
 use Rattle.cfi_directives.specs.Faults.{depth_after, IsUnbalanced, IsStuck, IsElsewhere, IsRefused}
-use Rattle.cfi_directives.specs.Procedures.{Procedures, new_frame, with_stop, cfa_offset}
+use Rattle.cfi_directives.specs.Procedures.{Procedures, new_frame, with_pointer, with_stop, cfa_offset}
 use Rattle.cfi_directives.specs.Rows.{rows_after}
 use Rattle.cfi_directives.specs.Saying.{if_writable, adjusted, relative, said}
 use Rattle.cfi_directives.specs.Sound.{IsSound, AreSound}
-use Rattle.cfi_directives.specs.Taking.{with_op, ended, put, taken}
+use Rattle.cfi_directives.specs.Taking.{with_op, ended, pointed, put, taken}
 use Rattle.cfi_directives.specs.Writable.{is_writable}
 use Rattle.cfi_directives.proofs.MeaningLemmas.{with_open}
 use Rattle.cfi_directives.proofs.SoundLemmas.{said_is}
@@ -257,6 +259,15 @@ end_comes closed (Some frame) at cause is =
     let parts = found_refused (frame.section == at.section) (λ frame. with_open (closed ++ with_stop at.place frame ∷ []) None) cause frame is in
     subst (λ (c : CfiCause). IsRefused EndProc at (with_open closed (Some frame)) c) (sym parts.1) (eqb-false frame.section at.section parts.0)
 
+-- a pointer is refused without an open procedure, and in another section
+point_comes : (kind : PointerKind) (pointer : Option Pointer) (closed : List Frame) (begun : Option Frame) (at : SectionPlace) (cause : CfiCause)
+    → pointed kind pointer at (with_open closed begun) ≡ Err cause → IsRefused (Point kind pointer) at (with_open closed begun) cause
+point_comes kind pointer closed None at cause is =
+    subst (λ (c : CfiCause). IsRefused (Point kind pointer) at (with_open closed None) c) (let same : CfiOutsideProcedure ≡ cause = cc in same) refl
+point_comes kind pointer closed (Some frame) at cause is =
+    let parts = found_refused (frame.section == at.section) (λ frame. with_open closed (Some (with_pointer kind pointer frame))) cause frame is in
+    subst (λ (c : CfiCause). IsRefused (Point kind pointer) at (with_open closed (Some frame)) c) (sym parts.1) (eqb-false frame.section at.section parts.0)
+
 start_comes : (closed : List Frame) (begun : Option Frame) (cause : CfiCause) (next : Procedures)
     → (if is_some begun then Err UnbalancedCfiState else Ok next) ≡ Err cause → (is_some begun ≡ true) × (cause ≡ UnbalancedCfiState)
 start_comes closed None cause next is = absurd (let none : ⊥ = cc in none)
@@ -272,6 +283,7 @@ comes EndProc at procedures cause sound is = end_comes procedures.closed procedu
 comes (Row directive) at procedures cause sound is =
     row_comes procedures.closed procedures.begun directive at cause sound.begun
     (split_steps (said (cfa_offset procedures.begun) directive) (λ op. put at op procedures) cause is)
+comes (Point kind pointer) at procedures cause sound is = point_comes kind pointer procedures.closed procedures.begun at cause is
 
 -- a cause makes its refusal
 ok_is : {A : Type 0} (due : Result A CfiCause) → is_ok due ≡ true → (value : A) × (due ≡ Ok value)
@@ -317,6 +329,18 @@ end_elsewhere closed None at wrong = absurd wrong
 end_elsewhere closed (Some frame) at apart =
     ap (λ b. (if b then Ok frame else Err UnbalancedCfiState) >>= λ frame. Ok (with_open (closed ++ with_stop at.place frame ∷ []) None)) (ne_eqb frame.section at.section apart)
 
+point_outside : (kind : PointerKind) (pointer : Option Pointer) (closed : List Frame) (begun : Option Frame) (at : SectionPlace) → is_some begun ≡ false
+    → pointed kind pointer at (with_open closed begun) ≡ Err CfiOutsideProcedure
+point_outside kind pointer closed None at none = refl
+point_outside kind pointer closed (Some frame) at none = absurd (let wrong : ⊥ = cc in wrong)
+
+point_elsewhere : (kind : PointerKind) (pointer : Option Pointer) (closed : List Frame) (begun : Option Frame) (at : SectionPlace) → IsElsewhere at begun
+    → pointed kind pointer at (with_open closed begun) ≡ Err UnbalancedCfiState
+point_elsewhere kind pointer closed None at wrong = absurd wrong
+point_elsewhere kind pointer closed (Some frame) at apart =
+    ap (λ b. (if b then Ok frame else Err UnbalancedCfiState) >>= λ frame. Ok (with_open closed (Some (with_pointer kind pointer frame))))
+    (ne_eqb frame.section at.section apart)
+
 pub only : (line : CfiLine) (at : SectionPlace) (procedures : Procedures) (cause : CfiCause) → AreSound procedures
     → IsRefused line at procedures cause → taken line at procedures ≡ Err cause
 only (StartProc pos) at procedures OutOfRange sound refused = absurd refused
@@ -332,3 +356,6 @@ only (Row directive) at procedures UnbalancedCfiState sound refused =
     let op = ok_is (said (cfa_offset procedures.begun) directive) refused.0 in
     ap (λ due. due >>= λ op. put at op procedures) op.1
     ∙ row_unbalanced procedures.closed procedures.begun directive at op.0 sound.begun op.1 refused.1
+only (Point kind pointer) at procedures OutOfRange sound refused = absurd refused
+only (Point kind pointer) at procedures CfiOutsideProcedure sound refused = point_outside kind pointer procedures.closed procedures.begun at refused
+only (Point kind pointer) at procedures UnbalancedCfiState sound refused = point_elsewhere kind pointer procedures.closed procedures.begun at refused

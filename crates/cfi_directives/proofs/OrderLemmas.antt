@@ -1,20 +1,23 @@
 -- Places never fall within a procedure.
-use Rattle.std.proofs.Common.{◌≡◌, List, [], ◌∷◌, ◌++◌, map, Some, Ok, refl, sym, ◌∙◌, ap, subst}
+use Rattle.std.proofs.Common.{◌≡◌, List, [], ◌∷◌, ◌++◌, map, Option, Some, Ok, refl, sym, ◌∙◌, ap, subst, arith}
 use Rattle.std.specs.Prelude.{All}
 use Rattle.std.proofs.lemmas.List.{map-append}
 use Rattle.std.proofs.lemmas.List.Elements.{All-push, All-nil}
 use Rattle.cfi_rows.specs.declared.rows.CfiOp.{CfiOp}
 use Rattle.cfi_directives.specs.declared.frames.Frame.{Frame}
 use Rattle.cfi_directives.specs.declared.frames.PlacedOp.{PlacedOp}
+use Rattle.cfi_directives.specs.declared.frames.Pointer.{Pointer}
+use Rattle.cfi_directives.specs.declared.lines.PointerKind.{PointerKind}
+use Rattle.cfi_directives.specs.declared.lines.PointerKind.TheVariants.{Personality, Lsda}
 use Rattle.cfi_directives.specs.declared.lines.CfiLine.{CfiLine}
-use Rattle.cfi_directives.specs.declared.lines.CfiLine.TheVariants.{StartProc, EndProc, Row}
+use Rattle.cfi_directives.specs.declared.lines.CfiLine.TheVariants.{StartProc, EndProc, Row, Point}
 use Rattle.asm_base.specs.declared.places.Place.{Place}
 use Rattle.asm_base.specs.declared.places.SectionPlace.{SectionPlace}
 use Rattle.cfi_directives.specs.Order.{IsUpTo, NeverFall, op_places, last_of, last_place, IsInOrder, AreInOrder, IsReached, HasComeTo, LinesNeverFall}
-use Rattle.cfi_directives.specs.Procedures.{Procedures, no_procedures, with_stop, cfa_offset}
+use Rattle.cfi_directives.specs.Procedures.{Procedures, no_procedures, with_pointer, with_stop, cfa_offset}
 use Rattle.cfi_directives.specs.Saying.{said}
 use Rattle.cfi_directives.specs.Taking.{put, taken, PlacedLine, taken_from, procedures_of}
-use Rattle.cfi_directives.proofs.StepLemmas.{came, with_ops, Puts, put_is, Ends, ended_is, started_is, open_is}
+use Rattle.cfi_directives.proofs.StepLemmas.{came, with_ops, Points, pointed_is, Puts, put_is, Ends, ended_is, started_is, open_is}
 
 -- a place more behind the last one
 pub fall_no_more : (first : Place) (places : List Place) (next : Place) → NeverFall (first ∷ places) → IsUpTo (last_of first places) next
@@ -64,6 +67,24 @@ end_kept at procedures next frame ends order up =
       begun = tt;
     })
 
+-- a pointer changes no place
+pointed_rises : (kind : PointerKind) (pointer : Option Pointer) (frame : Frame) → NeverFall (op_places frame) → NeverFall (op_places (with_pointer kind pointer frame))
+pointed_rises Personality pointer frame rising = rising
+pointed_rises Lsda pointer frame rising = rising
+
+pointed_reached : (kind : PointerKind) (pointer : Option Pointer) (at : SectionPlace) (frame : Frame) → (frame.section ≡ at.section) × IsUpTo (last_place frame) at.place
+    → ((with_pointer kind pointer frame).section ≡ at.section) × IsUpTo (last_place (with_pointer kind pointer frame)) at.place
+pointed_reached Personality pointer at frame reached = reached
+pointed_reached Lsda pointer at frame reached = reached
+
+point_kept : (kind : PointerKind) (pointer : Option Pointer) (at : SectionPlace) (procedures next : Procedures) (frame : Frame)
+    → Points kind pointer at procedures next frame → AreInOrder procedures → AreInOrder next
+point_kept kind pointer at procedures next frame points order =
+    subst AreInOrder (sym points.made) (record {
+      closed = order.closed;
+      begun = pointed_rises kind pointer frame (open_is (λ frame. NeverFall (op_places frame)) procedures.begun frame points.begun order.begun);
+    })
+
 -- where the open procedure of its section has not come past the place
 abbrev pub IsAhead : Procedures → SectionPlace → Type 0
 IsAhead procedures at = (frame : Frame) → procedures.begun ≡ Some frame → frame.section ≡ at.section → IsUpTo (last_place frame) at.place
@@ -80,6 +101,9 @@ kept_ahead (Row directive) at procedures next is order ahead =
     let says = came (said (cfa_offset procedures.begun) directive) (λ op. put at op procedures) next is in
     let puts = put_is at says.0 procedures next says.2 in
     put_kept at procedures next puts.0 says.0 puts.1 order (ahead puts.0 puts.1.begun puts.1.section)
+kept_ahead (Point kind pointer) at procedures next is order ahead =
+    let points = pointed_is kind pointer at procedures next is in
+    point_kept kind pointer at procedures next points.0 points.1 order
 
 pub kept : (line : CfiLine) (at : SectionPlace) (procedures next : Procedures) → taken line at procedures ≡ Ok next
     → AreInOrder procedures → IsReached procedures at → AreInOrder next
@@ -87,44 +111,59 @@ kept line at procedures next is order reached =
     kept_ahead line at procedures next is order
     (λ frame begun section. open_is (λ frame. IsUpTo (last_place frame) at.place) procedures.begun frame begun reached)
 
--- a directive takes the open procedure to its place
+-- a directive takes the open procedure to its place, and not past it
+up_to_itself : (place : Place) → IsUpTo place place
+up_to_itself place = (omega arith, omega arith)
+
 put_reached : (at : SectionPlace) (procedures next : Procedures) (frame : Frame) (placed : PlacedOp) → placed.place ≡ at.place
     → frame.section ≡ at.section → next ≡ record procedures { begun = Some (with_ops frame (frame.ops ++ placed ∷ [])) }
     → HasComeTo at next
 put_reached at procedures next frame placed here section is =
-    subst (HasComeTo at) (sym is) (section, op_comes_to frame placed ∙ here)
+    subst (HasComeTo at) (sym is) (section, subst (λ (p : Place). IsUpTo p at.place) (sym (op_comes_to frame placed ∙ here)) (up_to_itself at.place))
 
-pub reached : (line : CfiLine) (at : SectionPlace) (procedures next : Procedures) → taken line at procedures ≡ Ok next → HasComeTo at next
-reached (StartProc pos) at procedures next is =
+come_to : (line : CfiLine) (at : SectionPlace) (procedures next : Procedures) → taken line at procedures ≡ Ok next → IsAhead procedures at → HasComeTo at next
+come_to (StartProc pos) at procedures next is ahead =
     let starts = started_is pos at procedures next is in
-    subst (HasComeTo at) (sym starts.1) (refl, refl)
-reached EndProc at procedures next is =
+    subst (HasComeTo at) (sym starts.1) (refl, up_to_itself at.place)
+come_to EndProc at procedures next is ahead =
     let ends = ended_is at procedures next is in
     subst (HasComeTo at) (sym ends.1.made) tt
-reached (Row directive) at procedures next is =
+come_to (Row directive) at procedures next is ahead =
     let says = came (said (cfa_offset procedures.begun) directive) (λ op. put at op procedures) next is in
     let puts = put_is at says.0 procedures next says.2 in
     put_reached at procedures next puts.0 (record { place = at.place; op = says.0 }) refl puts.1.section puts.1.made
+come_to (Point kind pointer) at procedures next is ahead =
+    let points = pointed_is kind pointer at procedures next is in
+    subst (HasComeTo at) (sym points.1.made)
+    (pointed_reached kind pointer at points.0 (points.1.section, ahead points.0 points.1.begun points.1.section))
+
+pub reached : (line : CfiLine) (at : SectionPlace) (procedures next : Procedures) → taken line at procedures ≡ Ok next → IsReached procedures at → HasComeTo at next
+reached line at procedures next is before =
+    come_to line at procedures next is (λ frame begun section. open_is (λ frame. IsUpTo (last_place frame) at.place) procedures.begun frame begun before)
 
 -- lines that never fall come to places ahead
+up_on : (first second third : Place) → IsUpTo first second → IsUpTo second third → IsUpTo first third
+up_on first second third one other = (omega (arith, one.0, other.0), omega (arith, one.1, other.1))
+
 ahead_of : (first second : SectionPlace) (procedures : Procedures) → HasComeTo first procedures
     → (first.section ≡ second.section → IsUpTo first.place second.place) → IsAhead procedures second
 ahead_of first second procedures came rises frame begun section =
-    let there = open_is (λ frame. (frame.section ≡ first.section) × (last_place frame ≡ first.place)) procedures.begun frame begun came in
-    subst (λ (p : Place). IsUpTo p second.place) (sym there.1) (rises (sym there.0 ∙ section))
+    let there = open_is (λ frame. (frame.section ≡ first.section) × IsUpTo (last_place frame) first.place) procedures.begun frame begun came in
+    up_on (last_place frame) first.place second.place there.1 (rises (sym there.0 ∙ section))
 
 all_from : (first : PlacedLine) (lines : List PlacedLine) (procedures last : Procedures) → HasComeTo first.at procedures → AreInOrder procedures
     → LinesNeverFall (first ∷ lines) → taken_from procedures lines ≡ Ok last → All IsInOrder last.closed
 all_from first [] procedures last here order rising is = subst (λ (p : Procedures). All IsInOrder p.closed) (let same : procedures ≡ last = cc in same) order.closed
 all_from first (second ∷ lines) procedures last here order rising is =
     let step = came (taken second.line second.at procedures) (λ next. taken_from next lines) last is in
-    all_from second lines step.0 last (reached second.line second.at procedures step.0 step.1)
-    (kept_ahead second.line second.at procedures step.0 step.1 order (ahead_of first.at second.at procedures here rising.0)) rising.1 step.2
+    let ahead = ahead_of first.at second.at procedures here rising.0 in
+    all_from second lines step.0 last (come_to second.line second.at procedures step.0 step.1 ahead)
+    (kept_ahead second.line second.at procedures step.0 step.1 order ahead) rising.1 step.2
 
 pub all : (lines : List PlacedLine) (procedures : Procedures) → procedures_of lines ≡ Ok procedures → LinesNeverFall lines
     → All IsInOrder procedures.closed
 all [] procedures is rising = subst (λ (p : Procedures). All IsInOrder p.closed) (let same : no_procedures ≡ procedures = cc in same) (All-nil IsInOrder)
 all (first ∷ lines) procedures is rising =
     let step = came (taken first.line first.at no_procedures) (λ next. taken_from next lines) procedures is in
-    all_from first lines step.0 procedures (reached first.line first.at no_procedures step.0 step.1)
+    all_from first lines step.0 procedures (reached first.line first.at no_procedures step.0 step.1 tt)
     (kept first.line first.at no_procedures step.0 step.1 (record { closed = All-nil IsInOrder; begun = tt }) tt) rising step.2

@@ -9,17 +9,20 @@ use Rattle.cfi_rows.specs.Written.{written}
 use Rattle.cfi_directives.specs.declared.faults.CfiCause.TheVariants.{OutOfRange}
 use Rattle.cfi_directives.specs.declared.frames.Frame.{Frame}
 use Rattle.cfi_directives.specs.declared.frames.PlacedOp.{PlacedOp}
+use Rattle.cfi_directives.specs.declared.frames.Pointer.{Pointer}
+use Rattle.cfi_directives.specs.declared.lines.PointerKind.{PointerKind}
+use Rattle.cfi_directives.specs.declared.lines.PointerKind.TheVariants.{Personality, Lsda}
 use Rattle.cfi_directives.specs.declared.lines.CfiLine.{CfiLine}
-use Rattle.cfi_directives.specs.declared.lines.CfiLine.TheVariants.{StartProc, EndProc, Row}
+use Rattle.cfi_directives.specs.declared.lines.CfiLine.TheVariants.{StartProc, EndProc, Row, Point}
 use Rattle.cfi_directives.specs.declared.lines.RowDirective.{RowDirective}
 use Rattle.cfi_directives.specs.declared.lines.RowDirective.TheVariants.{DefCfa, DefCfaRegister, DefCfaOffset, AdjustCfaOffset, Offset, RelOffset, ValOffset, Register, RememberState, RestoreState, Restore, Undefined, SameValue}
 use Rattle.asm_base.specs.declared.places.SectionPlace.{SectionPlace}
-use Rattle.cfi_directives.specs.Procedures.{Procedures, no_procedures, with_stop, cfa_offset}
+use Rattle.cfi_directives.specs.Procedures.{Procedures, no_procedures, with_pointer, with_stop, cfa_offset}
 use Rattle.cfi_directives.specs.Saying.{if_writable, adjusted, relative, said}
 use Rattle.cfi_directives.specs.Sound.{IsSound, IsWhole, AreSound}
 use Rattle.cfi_directives.specs.Taking.{put, taken, PlacedLine, taken_from, procedures_of}
 use Rattle.cfi_directives.specs.Writable.{is_writable}
-use Rattle.cfi_directives.proofs.StepLemmas.{came, Puts, put_is, Ends, ended_is, started_is, open_is}
+use Rattle.cfi_directives.proofs.StepLemmas.{came, Points, pointed_is, Puts, put_is, Ends, ended_is, started_is, open_is}
 use Rattle.cfi_directives.proofs.WritableLemmas.{forms}
 
 -- what is said can be written
@@ -79,6 +82,18 @@ end_sound at procedures next frame ends sound =
       begun = tt;
     })
 
+-- a pointer changes no instruction
+pointed_sound : (kind : PointerKind) (pointer : Option Pointer) (frame : Frame) → (frame.stop ≡ None) × IsSound frame
+    → ((with_pointer kind pointer frame).stop ≡ None) × IsSound (with_pointer kind pointer frame)
+pointed_sound Personality pointer frame had = (had.0, record { written = had.1.written; run = had.1.run })
+pointed_sound Lsda pointer frame had = (had.0, record { written = had.1.written; run = had.1.run })
+
+point_sound : (kind : PointerKind) (pointer : Option Pointer) (at : SectionPlace) (procedures next : Procedures) (frame : Frame)
+    → Points kind pointer at procedures next frame → AreSound procedures → AreSound next
+point_sound kind pointer at procedures next frame points sound =
+    let had = open_is (λ frame. (frame.stop ≡ None) × IsSound frame) procedures.begun frame points.begun sound.begun in
+    subst AreSound (sym points.made) (record { closed = sound.closed; begun = pointed_sound kind pointer frame had })
+
 -- a directive more keeps all of them sound
 pub kept_sound : (line : CfiLine) (at : SectionPlace) (procedures next : Procedures) → taken line at procedures ≡ Ok next → AreSound procedures → AreSound next
 kept_sound (StartProc pos) at procedures next is sound =
@@ -91,6 +106,9 @@ kept_sound (Row directive) at procedures next is sound =
     let says = came (said (cfa_offset procedures.begun) directive) (λ op. put at op procedures) next is in
     let puts = put_is at says.0 procedures next says.2 in
     put_sound at procedures next puts.0 says.0 puts.1 (said_is (cfa_offset procedures.begun) directive says.0 says.1) sound
+kept_sound (Point kind pointer) at procedures next is sound =
+    let points = pointed_is kind pointer at procedures next is in
+    point_sound kind pointer at procedures next points.0 points.1 sound
 
 sound_from : (lines : List PlacedLine) (procedures last : Procedures) → AreSound procedures → taken_from procedures lines ≡ Ok last → AreSound last
 sound_from [] procedures last sound is = subst AreSound (let same : procedures ≡ last = cc in same) sound

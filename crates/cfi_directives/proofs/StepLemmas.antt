@@ -8,10 +8,12 @@ use Rattle.cfi_directives.specs.declared.faults.CfiCause.{CfiCause}
 use Rattle.cfi_directives.specs.declared.faults.CfiCause.TheVariants.{UnbalancedCfiState}
 use Rattle.cfi_directives.specs.declared.frames.Frame.{Frame}
 use Rattle.cfi_directives.specs.declared.frames.PlacedOp.{PlacedOp}
+use Rattle.cfi_directives.specs.declared.frames.Pointer.{Pointer}
+use Rattle.cfi_directives.specs.declared.lines.PointerKind.{PointerKind}
 use Rattle.asm_base.specs.declared.places.SectionPlace.{SectionPlace}
-use Rattle.cfi_directives.specs.Procedures.{Procedures, new_frame, with_stop}
+use Rattle.cfi_directives.specs.Procedures.{Procedures, new_frame, with_pointer, with_stop}
 use Rattle.cfi_directives.specs.Rows.{rows_after}
-use Rattle.cfi_directives.specs.Taking.{frame_in, with_op, started, ended, put}
+use Rattle.cfi_directives.specs.Taking.{frame_in, with_op, started, ended, pointed, put}
 
 -- a step that came to a value had one before it
 abbrev pub Came : {A B : Type 0} → Result A CfiCause → (A → Result B CfiCause) → B → Type 0
@@ -76,6 +78,19 @@ pub ended_is : (at : SectionPlace) (procedures next : Procedures) → ended at p
     → (frame : Frame) × Ends at procedures next frame
 ended_is at procedures next is =
     let inner = came (frame_in at.section procedures.begun) (λ frame. Ok (record { closed = procedures.closed ++ with_stop at.place frame ∷ []; begun = None })) next is in
+    let found = frame_in_is at.section procedures.begun inner.0 inner.1 in
+    (inner.0, record { begun = found.0; section = found.1; made = cc })
+
+-- what an open procedure was when it got a pointer
+pub record Points (kind : PointerKind) (pointer : Option Pointer) (at : SectionPlace) (procedures next : Procedures) (frame : Frame) : Type 0 where
+  pub begun : procedures.begun ≡ Some frame
+  pub section : frame.section ≡ at.section
+  pub made : next ≡ record procedures { begun = Some (with_pointer kind pointer frame) }
+
+pub pointed_is : (kind : PointerKind) (pointer : Option Pointer) (at : SectionPlace) (procedures next : Procedures) → pointed kind pointer at procedures ≡ Ok next
+    → (frame : Frame) × Points kind pointer at procedures next frame
+pointed_is kind pointer at procedures next is =
+    let inner = came (frame_in at.section procedures.begun) (λ frame. Ok (record procedures { begun = Some (with_pointer kind pointer frame) })) next is in
     let found = frame_in_is at.section procedures.begun inner.0 inner.1 in
     (inner.0, record { begun = found.0; section = found.1; made = cc })
 

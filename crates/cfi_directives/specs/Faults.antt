@@ -6,7 +6,7 @@ use Rattle.cfi_directives.specs.declared.faults.CfiCause.TheVariants.{OutOfRange
 use Rattle.cfi_directives.specs.declared.frames.Frame.{Frame}
 use Rattle.cfi_directives.specs.declared.frames.PlacedOp.{PlacedOp}
 use Rattle.cfi_directives.specs.declared.lines.CfiLine.{CfiLine}
-use Rattle.cfi_directives.specs.declared.lines.CfiLine.TheVariants.{StartProc, EndProc, Row}
+use Rattle.cfi_directives.specs.declared.lines.CfiLine.TheVariants.{StartProc, EndProc, Row, Point}
 use Rattle.cfi_directives.specs.declared.lines.RowDirective.{RowDirective}
 use Rattle.cfi_directives.specs.declared.lines.RowDirective.TheVariants.{RememberState, RestoreState}
 use Rattle.asm_base.specs.declared.places.SectionPlace.{SectionPlace}
@@ -46,3 +46,6 @@ IsRefused (Row directive) at procedures CfiOutsideProcedure =
 IsRefused (Row directive) at procedures UnbalancedCfiState =
     IsOk (said (cfa_offset procedures.begun) directive)
     × (IsElsewhere at procedures.begun ⊎ IsStuck directive procedures.begun)
+IsRefused (Point kind pointer) at procedures OutOfRange = ⊥
+IsRefused (Point kind pointer) at procedures CfiOutsideProcedure = IsNone procedures.begun
+IsRefused (Point kind pointer) at procedures UnbalancedCfiState = IsElsewhere at procedures.begun

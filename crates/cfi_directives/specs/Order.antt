@@ -42,9 +42,9 @@ pub record AreInOrder (procedures : Procedures) : Type 0 where
 abbrev pub IsReached : Procedures → SectionPlace → Type 0
 IsReached procedures at = IfSome procedures.begun (λ frame. IsUpTo (last_place frame) at.place)
 
--- the open procedure has come to this place
+-- the open procedure has come to this place, and not past it
 abbrev pub HasComeTo : SectionPlace → Procedures → Type 0
-HasComeTo at procedures = IfSome procedures.begun (λ frame. (frame.section ≡ at.section) × (last_place frame ≡ at.place))
+HasComeTo at procedures = IfSome procedures.begun (λ frame. (frame.section ≡ at.section) × IsUpTo (last_place frame) at.place)
 
 -- no line stands before the one before it, where both stand in one section
 abbrev pub LinesNeverFall : List PlacedLine → Type 0

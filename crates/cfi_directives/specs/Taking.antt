@@ -8,12 +8,14 @@ use Rattle.cfi_directives.specs.declared.faults.CfiCause.{CfiCause}
 use Rattle.cfi_directives.specs.declared.faults.CfiCause.TheVariants.{CfiOutsideProcedure, UnbalancedCfiState}
 use Rattle.cfi_directives.specs.declared.frames.Frame.{Frame}
 use Rattle.cfi_directives.specs.declared.frames.PlacedOp.{PlacedOp}
+use Rattle.cfi_directives.specs.declared.frames.Pointer.{Pointer}
 use Rattle.cfi_directives.specs.declared.lines.CfiLine.{CfiLine}
-use Rattle.cfi_directives.specs.declared.lines.CfiLine.TheVariants.{StartProc, EndProc, Row}
+use Rattle.cfi_directives.specs.declared.lines.CfiLine.TheVariants.{StartProc, EndProc, Row, Point}
+use Rattle.cfi_directives.specs.declared.lines.PointerKind.{PointerKind}
 use Rattle.asm_base.specs.declared.places.SectionPlace.{SectionPlace}
 use Rattle.cfi_directives.specs.Rows.{rows_after}
 use Rattle.cfi_directives.specs.Saying.{said}
-use Rattle.cfi_directives.specs.Procedures.{Procedures, no_procedures, new_frame, with_stop, cfa_offset}
+use Rattle.cfi_directives.specs.Procedures.{Procedures, no_procedures, new_frame, with_pointer, with_stop, cfa_offset}
 
 -- the procedure that is open, for a directive in this section
 abbrev pub frame_in : ℕ → Option Frame → Result Frame CfiCause
@@ -39,11 +41,17 @@ put at op procedures = frame_in at.section procedures.begun
     >>= with_op (record { place = at.place; op = op })
     >>= λ frame. Ok (record procedures { begun = Some frame })
 
+-- the procedure has a pointer of this kind, or none: the last directive counts
+abbrev pub pointed : PointerKind → Option Pointer → SectionPlace → Procedures → Result Procedures CfiCause
+pointed kind pointer at procedures =
+    frame_in at.section procedures.begun >>= λ frame. Ok (record procedures { begun = Some (with_pointer kind pointer frame) })
+
 -- the procedures after a directive at this place
 abbrev pub taken : CfiLine → SectionPlace → Procedures → Result Procedures CfiCause
 taken (StartProc pos) at procedures = started pos at procedures
 taken EndProc at procedures = ended at procedures
 taken (Row directive) at procedures = said (cfa_offset procedures.begun) directive >>= λ op. put at op procedures
+taken (Point kind pointer) at procedures = pointed kind pointer at procedures
 
 -- a directive and its place
 pub record PlacedLine : Type 0 where

@@ -13,13 +13,18 @@ use Rattle.cfi_directives.specs.declared.faults.CfiCause.TheVariants.{OutOfRange
 use Rattle.cfi_directives.specs.declared.frames.Frame.{Frame}
 use Rattle.cfi_directives.specs.declared.frames.PlacedOp.{PlacedOp}
 use Rattle.cfi_directives.specs.declared.lines.CfiLine.{CfiLine}
-use Rattle.cfi_directives.specs.declared.lines.CfiLine.TheVariants.{StartProc, EndProc, Row}
+use Rattle.cfi_directives.specs.declared.lines.CfiLine.TheVariants.{StartProc, EndProc, Row, Point}
+use Rattle.cfi_directives.specs.declared.lines.PointerKind.TheVariants.{Personality, Lsda}
+use Rattle.cfi_directives.specs.declared.frames.Pointer.{Pointer}
+use Rattle.cfi_rows.specs.declared.pointers.PointerEncoding.TheVariants.{Relative4, Indirect4}
+use Rattle.asm_expr.specs.Forms.{symbol_form}
 use Rattle.cfi_directives.specs.declared.lines.RowDirective.{RowDirective}
 use Rattle.cfi_directives.specs.declared.lines.RowDirective.TheVariants.{DefCfa, DefCfaRegister, DefCfaOffset, AdjustCfaOffset, Offset, RelOffset, ValOffset, Register, RememberState, RestoreState, Restore, Undefined, SameValue}
 use Rattle.asm_base.specs.declared.places.Place.{Place}
 use Rattle.asm_base.specs.declared.places.SectionPlace.{SectionPlace}
 use Rattle.cfi_directives.specs.declared.registers.DwarfRegister.{DwarfRegister}
 use Rattle.cfi_directives.specs.Meant.{row_meant}
+use Rattle.cfi_directives.specs.Procedures.{with_pointer}
 use Rattle.cfi_directives.specs.Taking.{PlacedLine, procedures_of}
 
 -- rbx
@@ -62,6 +67,18 @@ stop offset = record { line = EndProc; at = in_text offset }
 abbrev pub row : ℕ → RowDirective → PlacedLine
 row offset directive = record { line = Row directive; at = in_text offset }
 
+-- a directive at its beginning
+abbrev pub line : CfiLine → PlacedLine
+line what = record { line = what; at = in_text 0 }
+
+-- a pointer to the first symbol, from its own place
+abbrev pub near : Pointer
+near = record { encoding = Relative4; target = symbol_form 0 }
+
+-- one to where a pointer to the second symbol stands
+abbrev pub indirect : Pointer
+indirect = record { encoding = Indirect4; target = symbol_form 1 }
+
 -- a line in another section
 abbrev pub line_elsewhere : CfiLine → PlacedLine
 line_elsewhere line = record { line = line; at = record { section = 1; place = at_byte 0 } }
@@ -76,12 +93,12 @@ placed offset op = record { place = at_byte offset; op = op }
 
 -- a procedure from a place, and up to one, if it has ended
 abbrev pub frame : ℕ → Option ℕ → List PlacedOp → Frame
-frame from None ops = record { pos = at_line; section = 0; start = at_byte from; stop = None; ops = ops }
-frame from (Some to) ops = record { pos = at_line; section = 0; start = at_byte from; stop = Some (at_byte to); ops = ops }
+frame from None ops = record { pos = at_line; section = 0; start = at_byte from; stop = None; personality = None; lsda = None; ops = ops }
+frame from (Some to) ops = record { pos = at_line; section = 0; start = at_byte from; stop = Some (at_byte to); personality = None; lsda = None; ops = ops }
 
 -- a procedure without instructions in another section
 abbrev pub frame_elsewhere : Frame
-frame_elsewhere = record { pos = at_line; section = 1; start = at_byte 0; stop = Some (at_byte 0); ops = [] }
+frame_elsewhere = record { pos = at_line; section = 1; start = at_byte 0; stop = Some (at_byte 0); personality = None; lsda = None; ops = [] }
 
 -- the lines make these procedures, the last of which is open or not
 abbrev pub Make : List PlacedLine → List Frame → Option Frame → Type 0
@@ -145,6 +162,13 @@ pub record WorkedDirectives : Type 0 where
       (op.Remember ∷ op.DefCfaOffset (pos 32) ∷ op.RestoreState ∷ op.DefCfaOffset (pos 16) ∷ [])
   pub rules : Say (Restore rbx ∷ Undefined rbp ∷ SameValue rsp ∷ Register rbx rbp ∷ ValOffset rbp (minus 8) ∷ [])
       (op.Restore 3 ∷ op.Set 6 rule.Undefined ∷ op.Set 7 rule.SameValue ∷ op.Set 3 (rule.Register 6) ∷ op.Set 6 (rule.ValueOffset (minus 8)) ∷ [])
+  pub pointed : Make (start 0 ∷ line (Point Personality (Some indirect)) ∷ line (Point Lsda (Some near)) ∷ stop 1 ∷ [])
+      (with_pointer Lsda (Some near) (with_pointer Personality (Some indirect) (frame 0 (Some 1) [])) ∷ []) None
+  pub pointed_again : Make (start 0 ∷ line (Point Lsda (Some near)) ∷ line (Point Lsda (Some indirect)) ∷ [])
+      [] (Some (with_pointer Lsda (Some indirect) (frame 0 None [])))
+  pub unpointed : Make (start 0 ∷ line (Point Lsda (Some near)) ∷ line (Point Lsda None) ∷ []) [] (Some (frame 0 None []))
+  pub pointed_elsewhere : Refuse (start 0 ∷ line_elsewhere (Point Lsda None) ∷ []) UnbalancedCfiState
+  pub pointed_outside : Refuse (line (Point Personality (Some near)) ∷ []) CfiOutsideProcedure
   pub many : Refuse (start 0 ∷ replicate 17 (row 0 RememberState)) UnbalancedCfiState
   pub unremembered : Refuse (start 0 ∷ row 0 RestoreState ∷ []) UnbalancedCfiState
   pub within : Refuse (start 0 ∷ start 0 ∷ []) UnbalancedCfiState

@@ -8,9 +8,9 @@ ghost use Rattle.cfi_directives.specs.Taking as spec;
 ghost use Rattle.cfi_directives.specs.Writable.{is_writable};
 
 use crate::faults::{CfiCause, CfiFault};
-use crate::frames::{Frame, Frames, PlacedOp};
+use crate::frames::{Frame, Frames, PlacedOp, Pointer};
 use crate::instructions::said;
-use crate::lines::{CfiLine, RowDirective};
+use crate::lines::{CfiLine, PointerKind};
 use crate::procedures::Procedure;
 use asm_base::{Pos, SectionPlace};
 use cfi_rows::CfiOp;
@@ -117,6 +117,25 @@ impl Directives {
         procedure.put(PlacedOp { place, op })
     }
 
+    /// Gives the procedure that is open a pointer, or takes it away.
+    fn point(
+        &mut self,
+        kind: PointerKind,
+        pointer: Option<Pointer>,
+        at: SectionPlace,
+    ) -> Result<(), CfiFault>
+        ensures { spec.Changes self.old self.new result (spec.pointed kind pointer at self.old) }
+    {
+        let Some(procedure) = &mut self.begun else {
+            return Err(CfiFault::Fault(CfiCause::CfiOutsideProcedure));
+        };
+        if procedure.section() != at.section {
+            return Err(CfiFault::Fault(CfiCause::UnbalancedCfiState));
+        }
+        procedure.point(kind, pointer);
+        Ok(())
+    }
+
     /// Takes a directive at its place, `at` (GNU as manual, "CFI directives"). `OutOfRange` comes exactly where no form
     /// holds the instruction that it says; else `CfiOutsideProcedure` exactly where no procedure is open and it begins
     /// none; else `UnbalancedCfiState` exactly where a procedure begins within one, the place is in another section than
@@ -132,6 +151,7 @@ impl Directives {
                 Ok(op) => self.put(op, at),
                 Err(cause) => Err(CfiFault::Fault(cause)),
             },
+            CfiLine::Point(kind, pointer) => self.point(kind, pointer, at),
         }
     }
 

@@ -3,7 +3,8 @@
 ghost use Rattle.std.specs.Prelude.{◌≡◌, [], ◌∷◌, ◌++◌, OnOk, OnErr};
 
 use asm_base::{NoMemory, Place, Pos};
-use cfi_rows::CfiOp;
+use asm_expr::Linear;
+use cfi_rows::{CfiOp, PointerEncoding};
 use std::alloc::Global;
 use std::marker::Model;
 
@@ -58,6 +59,13 @@ impl PlacedOps {
     }
 }
 
+/// A pointer of a procedure: how it is written, and what it leads to.
+#[derive(Drop)]
+pub struct Pointer {
+    pub encoding: PointerEncoding,
+    pub target: Linear,
+}
+
 /// A procedure with the instructions of its frame table.
 #[derive(Drop)]
 pub struct Frame {
@@ -69,6 +77,10 @@ pub struct Frame {
     pub start: Place,
     /// Where it ends. None while it is open.
     pub stop: Option<Place>,
+    /// The routine that unwinds through it.
+    pub personality: Option<Pointer>,
+    /// The data for that routine.
+    pub lsda: Option<Pointer>,
     /// In source order, each from its place on.
     pub ops: PlacedOps,
 }

@@ -113,13 +113,13 @@ pub fn rows_are_meant()
 {}
 
 /// Where the places of directives never fall, those of each procedure that has ended don't, from its beginning over its
-/// instructions to its end: one directive more keeps it so, and takes the open procedure to its place.
+/// instructions to its end: one directive more keeps it so, and takes the open procedure to its place at most.
 pub fn places_never_fall()
     ensures kept { (line : CfiLine) (at : SectionPlace) (procedures next : Procedures)
         → taken line at procedures ≡ Ok next → AreInOrder procedures → IsReached procedures at
         → AreInOrder next }
     ensures reached { (line : CfiLine) (at : SectionPlace) (procedures next : Procedures)
-        → taken line at procedures ≡ Ok next → HasComeTo at next }
+        → taken line at procedures ≡ Ok next → IsReached procedures at → HasComeTo at next }
     ensures all { (lines : List PlacedLine) (procedures : Procedures)
         → procedures_of lines ≡ Ok procedures → LinesNeverFall lines
         → All IsInOrder procedures.closed }

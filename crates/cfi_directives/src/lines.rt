@@ -1,10 +1,20 @@
 //! What one `.cfi_` directive says (GNU as manual, "CFI directives"). Offsets are in bytes: none is factored.
 
+use crate::frames::Pointer;
 use crate::registers::DwarfRegister;
 use asm_base::Pos;
 
-/// A directive. One that names several registers is a line for each of them, at the same place.
+/// What a pointer of a procedure leads to.
 #[derive(Clone, Copy, PartialEq, Eq, Debug)]
+pub enum PointerKind {
+    /// `.cfi_personality`: the routine that unwinds through it.
+    Personality,
+    /// `.cfi_lsda`: the data for that routine.
+    Lsda,
+}
+
+/// A directive. One that names several registers is a line for each of them, at the same place.
+#[derive(Drop)]
 pub enum CfiLine {
     /// `.cfi_startproc`: a procedure begins here. Faults of what is made for it are told at this line.
     StartProc(Pos),
@@ -12,6 +22,8 @@ pub enum CfiLine {
     EndProc,
     /// A directive of the procedure that is open.
     Row(RowDirective),
+    /// `.cfi_personality` and `.cfi_lsda`: the procedure that is open has this pointer, or none.
+    Point(PointerKind, Option<Pointer>),
 }
 
 /// A directive that says how the row changes from its place on.

@@ -2,14 +2,15 @@
 
 ghost use Rattle.std.specs.Prelude.{◌≡◌, None, Some, IsTrue};
 ghost use Rattle.std.specs.Option.{option_map};
-ghost use Rattle.cfi_directives.specs.Procedures.{new_frame, with_stop};
+ghost use Rattle.cfi_directives.specs.Procedures.{new_frame, with_pointer, with_stop};
 ghost use Rattle.cfi_directives.specs.Rows.{rows_after};
 ghost use Rattle.cfi_directives.specs.Sound.{IsSound, IsWhole};
 ghost use Rattle.cfi_directives.specs.Taking.{with_op, Changes};
 ghost use Rattle.cfi_directives.specs.Writable.{is_writable};
 
 use crate::faults::{CfiCause, CfiFault};
-use crate::frames::{Frame, PlacedOp, PlacedOps};
+use crate::frames::{Frame, PlacedOp, PlacedOps, Pointer};
+use crate::lines::PointerKind;
 use crate::offsets::CfaOffsets;
 use asm_base::{Place, Pos, SectionPlace};
 use std::alloc::Global;
@@ -44,6 +45,8 @@ impl Procedure {
                 section: at.section,
                 start: at.place,
                 stop: None,
+                personality: None,
+                lsda: None,
                 ops: PlacedOps::new(alloc),
             },
             offsets: CfaOffsets::new(),
@@ -84,6 +87,16 @@ impl Procedure {
         self.frame.ops.add(placed)?;
         self.offsets.run(placed.op);
         Ok(())
+    }
+
+    /// Gives it a pointer, or takes it away.
+    pub(crate) fn point(&mut self, kind: PointerKind, pointer: Option<Pointer>)
+        ensures { self.new ≡ with_pointer kind pointer self.old }
+    {
+        match kind {
+            PointerKind::Personality => self.frame.personality = pointer,
+            PointerKind::Lsda => self.frame.lsda = pointer,
+        }
     }
 
     /// The frame as it stands.

@@ -6,6 +6,7 @@ pub mod OperandLemmas
 pub mod FairLemmas
 pub mod PieceLemmas
 pub mod WrittenLemmas
+pub mod CommonLemmas
 pub mod EntryLemmas
 pub mod DifferenceLemmas
 pub mod RowListLemmas

@@ -2,11 +2,13 @@
 use Rattle.std.proofs.Common.{refl}
 use Rattle.cfi_rows.specs.Instructions.{extended, nop_or_advance, register_rule, state_or_cfa, signed_or_value}
 use Rattle.cfi_rows.specs.Places.{row_in_force}
+use Rattle.cfi_rows.specs.Pointers.{encoding_of}
+use Rattle.cfi_rows.specs.Commons.{common_of}
 use Rattle.leb128.specs.Digits.{uleb_bytes, sleb_bytes}
-use Rattle.cfi_rows.specs.WorkedRows.{FrameRows, OtherRows, WorkedDifferences, WrittenBytes}
+use Rattle.cfi_rows.specs.WorkedRows.{FrameRows, OtherRows, WorkedCommons, WorkedDifferences, WrittenBytes}
 
 pub frame_rows : FrameRows
-unfolding extended nop_or_advance register_rule state_or_cfa signed_or_value row_in_force uleb_bytes sleb_bytes
+unfolding extended nop_or_advance register_rule state_or_cfa signed_or_value row_in_force common_of encoding_of uleb_bytes sleb_bytes
 frame_rows = record {
   entry = refl;
   pushed_now = refl;
@@ -17,7 +19,7 @@ frame_rows = record {
 }
 
 pub other_rows : OtherRows
-unfolding extended nop_or_advance register_rule state_or_cfa signed_or_value row_in_force uleb_bytes sleb_bytes
+unfolding extended nop_or_advance register_rule state_or_cfa signed_or_value row_in_force common_of encoding_of uleb_bytes sleb_bytes
 other_rows = record {
   changed_now = refl;
   restored = refl;
@@ -61,11 +63,18 @@ other_rows = record {
   long_form = refl;
   augmented = refl;
   other_common = refl;
+  personality_passed = refl;
+  wide_passed = refl;
+  both_passed = refl;
+  lsda_missing = refl;
+  other_pointer = refl;
+  other_order = refl;
+  other_data = refl;
   no_entry = refl;
 }
 
 pub written_bytes : WrittenBytes
-unfolding extended nop_or_advance register_rule state_or_cfa signed_or_value row_in_force uleb_bytes sleb_bytes
+unfolding extended nop_or_advance register_rule state_or_cfa signed_or_value row_in_force common_of encoding_of uleb_bytes sleb_bytes
 written_bytes = record {
   cfa = refl;
   cfa_below = refl;
@@ -95,8 +104,16 @@ written_bytes = record {
   restored = refl;
 }
 
+pub common_entries : WorkedCommons
+common_entries = record {
+  plain = refl;
+  personality = refl;
+  both = refl;
+  wide = refl;
+}
+
 pub differences : WorkedDifferences
-unfolding extended nop_or_advance register_rule state_or_cfa signed_or_value row_in_force uleb_bytes sleb_bytes
+unfolding extended nop_or_advance register_rule state_or_cfa signed_or_value row_in_force common_of encoding_of uleb_bytes sleb_bytes
 differences = record {
   push = refl;
   move = refl;

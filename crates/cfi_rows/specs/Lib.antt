@@ -1,6 +1,8 @@
 pub mod Rows
 pub mod Instructions
 pub mod Places
+pub mod Pointers
+pub mod Commons
 pub mod Entries
 pub mod Walks
 pub mod Written

@@ -56,9 +56,11 @@ ops_of lines = map (λ line. (line.place, line.op)) lines
 abbrev pub word_then : ℕ → List ℕ → List ℕ
 word_then number rest = number % 256 ∷ number / 256 % 256 ∷ number / 65536 % 256 ∷ number / 16777216 ∷ rest
 
--- a frame description entry: its length, the distance back to the common entry, the start, the range, no augmentation data, the instructions
-abbrev pub entry_bytes : ℕ → ℕ → ℕ → List ℕ → List ℕ
-entry_bytes back first range code = word_then (length code + 13) (word_then back (word_then first (word_then range (0 ∷ code))))
+-- a frame description entry: its length, the distance back to the common entry, the start, the range, the pointer to the LSDA behind its length, and the
+-- instructions
+abbrev pub entry_bytes : ℕ → ℕ → ℕ → List ℕ → List ℕ → List ℕ
+entry_bytes back first range lsda code =
+    word_then (length (lsda ++ code) + 13) (word_then back (word_then first (word_then range (length lsda ∷ (lsda ++ code)))))
 
 -- the row after the instructions up to a place below the range
 abbrev pub row_due : ℕ → ℕ → List Line → Option CfaRow

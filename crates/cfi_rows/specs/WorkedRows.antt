@@ -4,14 +4,16 @@ use Rattle.cfi_rows.specs.declared.rows.CfaRow.{CfaRow}
 use Rattle.cfi_rows.specs.declared.rows.CfiOp.TheVariants.{DefCfa, DefCfaRegister, DefCfaOffset, Set, Restore}
 use Rattle.cfi_rows.specs.declared.rows.Rule.TheVariants.{Unspecified, Undefined, SameValue, Offset, ValueOffset, Register}
 use Rattle.cfi_rows.specs.Rows.{common_row, with_cfa, with_rule}
-use Rattle.cfi_rows.specs.Entries.{common_bytes, row_of}
+use Rattle.cfi_rows.specs.declared.pointers.PointerEncoding.TheVariants.{Absolute8, Relative4, Indirect4}
+use Rattle.cfi_rows.specs.Commons.{common_bytes, common_entry, plain_form}
+use Rattle.cfi_rows.specs.Entries.{row_of}
 use Rattle.cfi_rows.specs.Lines.{entry_bytes}
 use Rattle.cfi_rows.specs.Written.{written}
 use Rattle.cfi_rows.specs.Differences.{differences}
 
 -- the row at a place of an entry with this range and these instructions is this one
 abbrev pub Stands : ℕ → List ℕ → ℕ → Option CfaRow → Type 0
-Stands range code at row = row_of common_bytes (entry_bytes 28 0 range code) at ≡ row
+Stands range code at row = row_of common_bytes (entry_bytes 28 0 range [] code) at ≡ row
 
 -- push %rbp; mov %rsp,%rbp; pop %rbp; ret
 abbrev pub framed : List ℕ
@@ -42,7 +44,25 @@ digits first last = first ∷ (replicate 7 0x80 ++ last ∷ [])
 abbrev pub Refused : List ℕ → Type 0
 Refused code = Stands 6 code 0 None
 
--- of other entries: the row is remembered whole, an advance by 0, ones of 2, 3 and 5 bytes, padding, and what no entry is
+-- the common entry of a personality whose pointer has 4 bytes, from its own place, and is indirect
+abbrev pub of_personality : List ℕ
+of_personality =
+    0x18 ∷ 0x00 ∷ 0x00 ∷ 0x00 ∷ 0x00 ∷ 0x00 ∷ 0x00 ∷ 0x00 ∷ 0x01 ∷ 0x7a ∷ 0x50 ∷ 0x52 ∷ 0x00 ∷ 0x01 ∷ 0x78 ∷ 0x10 ∷ 0x06
+    ∷ 0x9b ∷ 0x00 ∷ 0x00 ∷ 0x00 ∷ 0x00 ∷ 0x1b ∷ 0x0c ∷ 0x07 ∷ 0x08 ∷ 0x90 ∷ 0x01 ∷ []
+
+-- the same, and pointers to LSDAs have 4 bytes, from their own place
+abbrev pub of_both : List ℕ
+of_both =
+    0x1c ∷ 0x00 ∷ 0x00 ∷ 0x00 ∷ 0x00 ∷ 0x00 ∷ 0x00 ∷ 0x00 ∷ 0x01 ∷ 0x7a ∷ 0x50 ∷ 0x4c ∷ 0x52 ∷ 0x00 ∷ 0x01 ∷ 0x78 ∷ 0x10 ∷ 0x07
+    ∷ 0x9b ∷ 0x00 ∷ 0x00 ∷ 0x00 ∷ 0x00 ∷ 0x1b ∷ 0x1b ∷ 0x0c ∷ 0x07 ∷ 0x08 ∷ 0x90 ∷ 0x01 ∷ 0x00 ∷ 0x00 ∷ []
+
+-- pointers of 8 bytes
+abbrev pub of_wide : List ℕ
+of_wide =
+    0x20 ∷ 0x00 ∷ 0x00 ∷ 0x00 ∷ 0x00 ∷ 0x00 ∷ 0x00 ∷ 0x00 ∷ 0x01 ∷ 0x7a ∷ 0x50 ∷ 0x4c ∷ 0x52 ∷ 0x00 ∷ 0x01 ∷ 0x78 ∷ 0x10 ∷ 0x0b
+    ∷ 0x00 ∷ 0x00 ∷ 0x00 ∷ 0x00 ∷ 0x00 ∷ 0x00 ∷ 0x00 ∷ 0x00 ∷ 0x00 ∷ 0x00 ∷ 0x1b ∷ 0x0c ∷ 0x07 ∷ 0x08 ∷ 0x90 ∷ 0x01 ∷ 0x00 ∷ 0x00 ∷ []
+
+-- of other entries: pointers to personalities and LSDAs are passed over, the row is remembered whole, an advance by 0, ones of 2, 3 and 5 bytes, padding, and what no entry is
 pub record OtherRows : Type 0 where
   pub changed_now : Stands 6 remembered 0 (Some (with_rule (with_cfa common_row 7 (pos 24)) 3 Undefined))
   pub restored : Stands 6 remembered 1 (Some common_row)
@@ -85,7 +105,14 @@ pub record OtherRows : Type 0 where
   pub short_length : row_of common_bytes (13 ∷ 0 ∷ 0 ∷ 0 ∷ 28 ∷ 0 ∷ 0 ∷ 0 ∷ 0 ∷ 0 ∷ 0 ∷ 0 ∷ 6 ∷ 0 ∷ 0 ∷ 0 ∷ 0 ∷ 0x0a ∷ []) 0 ≡ None
   pub long_form : row_of common_bytes (0xff ∷ 0xff ∷ 0xff ∷ 0xff ∷ 28 ∷ 0 ∷ 0 ∷ 0 ∷ 0 ∷ 0 ∷ 0 ∷ 0 ∷ 6 ∷ 0 ∷ 0 ∷ 0 ∷ 0 ∷ []) 0 ≡ None
   pub augmented : row_of common_bytes (14 ∷ 0 ∷ 0 ∷ 0 ∷ 28 ∷ 0 ∷ 0 ∷ 0 ∷ 0 ∷ 0 ∷ 0 ∷ 0 ∷ 6 ∷ 0 ∷ 0 ∷ 0 ∷ 1 ∷ 0 ∷ []) 0 ≡ None
-  pub other_common : row_of (slice_set common_bytes 13 0x7c) (entry_bytes 28 0 6 framed) 0 ≡ None
+  pub other_common : row_of (slice_set common_bytes 13 0x7c) (entry_bytes 28 0 6 [] framed) 0 ≡ None
+  pub personality_passed : row_of of_personality (entry_bytes 32 0 6 [] framed) 1 ≡ Some pushed
+  pub wide_passed : row_of of_wide (entry_bytes 40 0 6 (replicate 8 0) framed) 1 ≡ Some pushed
+  pub both_passed : row_of of_both (entry_bytes 36 0 6 (1 ∷ 2 ∷ 3 ∷ 4 ∷ []) framed) 1 ≡ Some pushed
+  pub lsda_missing : row_of of_both (entry_bytes 36 0 6 [] framed) 1 ≡ None
+  pub other_pointer : row_of (slice_set of_both 18 0x10) (entry_bytes 36 0 6 (1 ∷ 2 ∷ 3 ∷ 4 ∷ []) framed) 1 ≡ None
+  pub other_order : row_of (slice_set (slice_set of_both 10 0x4c) 11 0x50) (entry_bytes 36 0 6 (1 ∷ 2 ∷ 3 ∷ 4 ∷ []) framed) 1 ≡ None
+  pub other_data : row_of (slice_set of_both 17 0x08) (entry_bytes 36 0 6 (1 ∷ 2 ∷ 3 ∷ 4 ∷ []) framed) 1 ≡ None
   pub no_entry : row_of common_bytes (13 ∷ 0 ∷ 0 ∷ 0 ∷ 0 ∷ 0 ∷ 0 ∷ 0 ∷ 0 ∷ 0 ∷ 0 ∷ 0 ∷ 6 ∷ 0 ∷ 0 ∷ 0 ∷ 0 ∷ []) 0 ≡ None
 
 -- the bytes of instructions
@@ -116,6 +143,13 @@ pub record WrittenBytes : Type 0 where
   pub register : written (Set 6 (Register 3)) ≡ Some (0x09 ∷ 0x06 ∷ 0x03 ∷ [])
   pub unspecified : written (Set 6 Unspecified) ≡ None
   pub restored : written (Restore 6) ≡ Some (0xc6 ∷ [])
+
+-- common entries have the bytes of their forms
+pub record WorkedCommons : Type 0 where
+  pub plain : common_entry plain_form [] ≡ common_bytes
+  pub personality : common_entry (record { personality = Some Indirect4; lsda = None }) (replicate 4 0) ≡ of_personality
+  pub both : common_entry (record { personality = Some Indirect4; lsda = Some Relative4 }) (replicate 4 0) ≡ of_both
+  pub wide : common_entry (record { personality = Some Absolute8; lsda = Some Absolute8 }) (replicate 8 0) ≡ of_wide
 
 -- what leads from row to row in a procedure with a frame pointer
 pub record WorkedDifferences : Type 0 where

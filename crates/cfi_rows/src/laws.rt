@@ -1,6 +1,6 @@
 //! What the definitions come to.
 
-ghost use Rattle.std.specs.Prelude.{◌≡◌, ◌+◌, ◌^◌, ◌<◌, ◌≤◌, ◌++◌, ℕ, ℤ, pos, neg_ℤ, ◌≤ℤ◌, ◌<ℤ◌, List, All, IsSome, length, slice_get, Some};
+ghost use Rattle.std.specs.Prelude.{◌≡◌, ◌+◌, ◌%◌, ◌^◌, ◌<◌, ◌≤◌, ◌++◌, ℕ, ℤ, pos, neg_ℤ, ◌≤ℤ◌, ◌<ℤ◌, List, [], ◌∷◌, All, IsSome, length, slice_get, Some};
 ghost use Rattle.leb128.specs.Digits.{sleb_bytes, uleb_bytes};
 ghost use Rattle.leb128.specs.Reading.{sleb, uleb};
 ghost use Rattle.cfi_rows.specs.declared.rows.CfaRow.{CfaRow};
@@ -10,12 +10,15 @@ ghost use Rattle.cfi_rows.specs.declared.rows.Insn.TheVariants.{Op};
 ghost use Rattle.cfi_rows.specs.Rows.{common_row, ops_after, rows_of, start_rows};
 ghost use Rattle.cfi_rows.specs.Instructions.{next};
 ghost use Rattle.cfi_rows.specs.Places.{AreCodeOf, decoded, Placed, row_after, row_in_force};
-ghost use Rattle.cfi_rows.specs.Entries.{common_bytes, initial_row, row_of};
+ghost use Rattle.cfi_rows.specs.declared.commons.CommonForm.{CommonForm};
+ghost use Rattle.cfi_rows.specs.Pointers.{size_if};
+ghost use Rattle.cfi_rows.specs.Commons.{common_bytes, common_entry, common_length, common_of, common_padding, plain_form};
+ghost use Rattle.cfi_rows.specs.Entries.{initial_row, row_of};
 ghost use Rattle.cfi_rows.specs.Written.{written};
 ghost use Rattle.cfi_rows.specs.Lines.{Line, AreLines, bytes_of, ops_of, entry_bytes, row_due};
 ghost use Rattle.cfi_rows.specs.Differences.{differences, IsReached, HaveForms};
 ghost use Rattle.cfi_rows.specs.RowLists.{RowPlace, AreRising, Leads, row_at_place};
-ghost use Rattle.cfi_rows.specs.WorkedRows.{FrameRows, OtherRows, WorkedDifferences, WrittenBytes};
+ghost use Rattle.cfi_rows.specs.WorkedRows.{FrameRows, OtherRows, WorkedCommons, WorkedDifferences, WrittenBytes};
 
 use leb128::numbers_read_back;
 
@@ -67,15 +70,33 @@ pub fn rows_read_back()
     numbers_read_back();
 }
 
-/// The same of a whole entry below its range; the common entry gives the row where a procedure begins.
-#[tactic(auto, using(crate::proofs::EntryLemmas::common_gives))]
+/// The common entry of a form reads as it, whatever the pointer to the personality is, and gives the row where a procedure
+/// begins. Its length counts what follows, and is a multiple of 4.
+pub fn common_entries_read()
+    ensures form { (form : CommonForm) (pointer : List ℕ)
+        → length pointer ≡ size_if form.personality
+        → common_of (common_entry form pointer)
+        ≡ Some (form, 0x0c ∷ 0x07 ∷ 0x08 ∷ 0x90 ∷ 0x01 ∷ common_padding form) }
+    ensures row { (form : CommonForm) (pointer : List ℕ)
+        → length pointer ≡ size_if form.personality
+        → initial_row (common_entry form pointer) ≡ Some common_row }
+    ensures plain { common_entry plain_form [] ≡ common_bytes }
+    ensures whole { (form : CommonForm) (pointer : List ℕ)
+        → length pointer ≡ size_if form.personality
+        → (length (common_entry form pointer) ≡ 4 + common_length form)
+        × (common_length form % 4 ≡ 0) }
+{}
+
+/// The same of a whole entry below its range, whatever the pointer to its LSDA is.
 pub fn entries_read_back()
-    ensures entry { (at padding back first range : ℕ) (lines : List Line) → AreLines 0 lines
+    ensures { (form : CommonForm) (pointer lsda : List ℕ) (at padding back first range : ℕ)
+        (lines : List Line) → length pointer ≡ size_if form.personality
+        → length lsda ≡ size_if form.lsda → AreLines 0 lines
         → back < 2 ^ 32 → 0 < back → first < 2 ^ 32 → range < 2 ^ 32
-        → length (bytes_of padding 0 lines) + 13 < 0xfffffff0
-        → row_of common_bytes (entry_bytes back first range (bytes_of padding 0 lines)) at
+        → length (lsda ++ bytes_of padding 0 lines) + 13 < 0xfffffff0
+        → row_of (common_entry form pointer)
+        (entry_bytes back first range lsda (bytes_of padding 0 lines)) at
         ≡ row_due at range lines }
-    ensures common { initial_row common_bytes ≡ Some common_row }
 {
     numbers_read_back();
 }
@@ -102,10 +123,11 @@ pub fn rows_stand_at_places()
         → row_after initial at ops (start_rows initial) ≡ Some (row_at_place at initial rows) }
 {}
 
-/// The rows, the bytes and the differences that are worked out by hand.
+/// The rows, the bytes, the common entries and the differences that are worked out by hand.
 pub fn worked_rows()
     ensures framed { FrameRows }
     ensures others { OtherRows }
     ensures bytes { WrittenBytes }
+    ensures commons { WorkedCommons }
     ensures differences { WorkedDifferences }
 {}

@@ -11,7 +11,6 @@ use Rattle.std.proofs.lemmas.Result.{IfOk-at_ok}
 use Rattle.asm_base.specs.declared.causes.FragCause.{FragCause}
 use Rattle.asm_base.specs.declared.causes.FragCause.TheVariants.{BadSection}
 use Rattle.asm_base.specs.declared.places.SectionPlace.{SectionPlace}
-use Rattle.asm_base.specs.declared.positions.Pos.{Pos}
 use Rattle.asm_frags.specs.Groups.{groups_of, groups_among, with_group}
 use Rattle.asm_frags.specs.SectionOf.{section_number}
 use Rattle.asm_frags.specs.Writing.{LooseSection, takes_zeros_alone}
@@ -117,50 +116,50 @@ module _ (extending : Extending) (naming : Naming) where
       (λ number held there. let now = extending.extensions.all section before after extends number held there in (now.0, now.1, now.2.group)))
 
   -- a table in a section that is there
-  put_there : (section : ℕ) (pos : Pos) (frames : List Frame) (tables : Tables) → AddsLittle tables (table_put section pos frames tables)
-  put_there section pos frames tables =
-      adds_by tables (table_put section pos frames tables)
-      (inl (extended_names section tables.sections (table_put section pos frames tables).sections (table_extends extending section pos frames tables)))
-      (inl (extended_kinds section tables.sections (table_put section pos frames tables).sections (table_extends extending section pos frames tables)))
-      (extended_groups section tables.sections (table_put section pos frames tables).sections (table_extends extending section pos frames tables))
-      (table_gets naming section pos frames tables)
+  put_there : (section : ℕ) (first : Frame) (frames : List Frame) (tables : Tables) → AddsLittle tables (table_put section first frames tables)
+  put_there section first frames tables =
+      adds_by tables (table_put section first frames tables)
+      (inl (extended_names section tables.sections (table_put section first frames tables).sections (table_extends extending section first frames tables)))
+      (inl (extended_kinds section tables.sections (table_put section first frames tables).sections (table_extends extending section first frames tables)))
+      (extended_groups section tables.sections (table_put section first frames tables).sections (table_extends extending section first frames tables))
+      (table_gets naming section first frames tables)
 
   -- and in a new one
-  put_new : (section : ℕ) (pos : Pos) (frames : List Frame) (tables : Tables)
-      → AddsLittle tables (table_put section pos frames (tables_of tables.symbols (tables.sections ++ new_table ∷ [])))
-  put_new section pos frames tables =
+  put_new : (section : ℕ) (first : Frame) (frames : List Frame) (tables : Tables)
+      → AddsLittle tables (table_put section first frames (tables_of tables.symbols (tables.sections ++ new_table ∷ [])))
+  put_new section first frames tables =
       let more = tables_of tables.symbols (tables.sections ++ new_table ∷ []) in
-      let put = table_put section pos frames more in
+      let put = table_put section first frames more in
       adds_by tables put
-      (inr (extended_names section more.sections put.sections (table_extends extending section pos frames more)
+      (inr (extended_names section more.sections put.sections (table_extends extending section first frames more)
       ∙ map-append (λ (section : LooseSection). section.name) tables.sections (new_table ∷ [])))
-      (inr (extended_kinds section more.sections put.sections (table_extends extending section pos frames more)
+      (inr (extended_kinds section more.sections put.sections (table_extends extending section first frames more)
       ∙ map-append (λ (section : LooseSection). section.kind) tables.sections (new_table ∷ [])))
-      (extended_groups section more.sections put.sections (table_extends extending section pos frames more) ∙ groups_beside tables.sections)
-      (table_gets naming section pos frames more)
+      (extended_groups section more.sections put.sections (table_extends extending section first frames more) ∙ groups_beside tables.sections)
+      (table_gets naming section first frames more)
 
   -- unless its section takes zeros alone
-  by_zeros : (section : ℕ) (zeros : Bool) (pos : Pos) (frames : List Frame) (tables : Tables)
-      → (let answer : Result Tables FragCause = if zeros then Err BadSection else Ok (table_put section pos frames tables) in IfOk answer (AddsLittle tables))
-  by_zeros section true pos frames tables = tt
-  by_zeros section false pos frames tables = put_there section pos frames tables
+  by_zeros : (section : ℕ) (zeros : Bool) (first : Frame) (frames : List Frame) (tables : Tables)
+      → (let answer : Result Tables FragCause = if zeros then Err BadSection else Ok (table_put section first frames tables) in IfOk answer (AddsLittle tables))
+  by_zeros section true first frames tables = tt
+  by_zeros section false first frames tables = put_there section first frames tables
 
   -- by the section that there is
-  by_section : (section : ℕ) (found : Option LooseSection) (pos : Pos) (frames : List Frame) (tables : Tables)
-      → IfOk (placed_there section found pos frames tables) (AddsLittle tables)
-  by_section section None pos frames tables = tt
-  by_section section (Some held) pos frames tables = by_zeros section (takes_zeros_alone held) pos frames tables
+  by_section : (section : ℕ) (found : Option LooseSection) (first : Frame) (frames : List Frame) (tables : Tables)
+      → IfOk (placed_there section found first frames tables) (AddsLittle tables)
+  by_section section None first frames tables = tt
+  by_section section (Some held) first frames tables = by_zeros section (takes_zeros_alone held) first frames tables
 
   -- by its number
-  by_number : (found : Option ℕ) (pos : Pos) (frames : List Frame) (tables : Tables) → IfOk (placed_in found pos frames tables) (AddsLittle tables)
-  by_number None pos frames tables = put_new (length tables.sections) pos frames tables
-  by_number (Some section) pos frames tables = by_section section (slice_get tables.sections section) pos frames tables
+  by_number : (found : Option ℕ) (first : Frame) (frames : List Frame) (tables : Tables) → IfOk (placed_in found first frames tables) (AddsLittle tables)
+  by_number None first frames tables = put_new (length tables.sections) first frames tables
+  by_number (Some section) first frames tables = by_section section (slice_get tables.sections section) first frames tables
 
   -- whatever the procedures are
   by_frames : (frames : List Frame) (tables : Tables) → IfOk (placed frames tables) (AddsLittle tables)
   unfolding placed
   by_frames [] tables = adds_by tables tables (inl refl) (inl refl) refl (naming.same tables.symbols)
-  by_frames (frame ∷ frames) tables = by_number (section_number (codes ".eh_frame") tables.sections) frame.pos (frame ∷ frames) tables
+  by_frames (frame ∷ frames) tables = by_number (section_number (codes ".eh_frame") tables.sections) frame (frame ∷ frames) tables
 
   -- so it is of each that is placed
   pub tables_add_little : TablesAddLittle

@@ -1,3 +1,5 @@
+pub mod CommonLemmas
+pub mod ProgressLemmas
 mod PieceFacts
 mod TableSteps
 mod NewTable

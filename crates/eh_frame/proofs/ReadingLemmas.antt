@@ -6,7 +6,7 @@ use Rattle.std.proofs.lemmas.Bool.{eqb-true, lt-ltb}
 use Rattle.std.proofs.lemmas.List.{append-nil}
 use Rattle.std.proofs.lemmas.List.Elements.{All-head, All-tail}
 use Rattle.asm_expr.specs.Forms.{wrapped}
-use Rattle.asm_frags.specs.declared.fields.FieldSize.TheVariants.{Four}
+use Rattle.asm_frags.specs.declared.fields.FieldSize.TheVariants.{Four, Eight}
 use Rattle.asm_frags.specs.Fields.{low_bytes}
 use Rattle.item_bytes.specs.Levels.{AdvanceHolds, advance_level}
 use Rattle.item_bytes.specs.Levels.{advance_size}
@@ -21,7 +21,11 @@ use Rattle.cfi_rows.specs.declared.rows.CfaRow.{CfaRow}
 use Rattle.cfi_rows.specs.declared.rows.CfiOp.{CfiOp}
 use Rattle.cfi_directives.specs.Meant.{from_start, ops_up_to, row_meant, stands_at, stop_of}
 use Rattle.cfi_directives.specs.Rows.{rows_after}
-use Rattle.cfi_rows.specs.Entries.{common_bytes, row_of}
+use Rattle.cfi_directives.specs.declared.frames.Pointer.{Pointer}
+use Rattle.cfi_rows.specs.declared.commons.CommonForm.{CommonForm}
+use Rattle.cfi_rows.specs.Commons.{common_entry}
+use Rattle.cfi_rows.specs.Entries.{row_of}
+use Rattle.cfi_rows.specs.Pointers.{is_wide, size_if}
 use Rattle.cfi_rows.specs.Lines.{Form, absent, inside, in_byte, in_two, in_four, advance_bytes, IsRoom, Line, bytes_of, AreLines, ops_of, word_then, entry_bytes, row_due}
 use Rattle.cfi_rows.specs.Places.{Placed, up_to, row_after}
 use Rattle.cfi_rows.specs.Places.{rows_after as rows_behind}
@@ -29,7 +33,8 @@ use Rattle.cfi_rows.specs.Rows.{Rows, common_row, start_rows, changed, ops_after
 use Rattle.cfi_rows.specs.Written.{written}
 use Rattle.table_pieces.specs.declared.marks.Mark.TheVariants.{Here, At}
 use Rattle.table_pieces.specs.Made.{Made, pieces_bytes, AreMade, IsSpan}
-use Rattle.table_pieces.specs.Pieces.{plain}
+use Rattle.table_pieces.specs.Pieces.{Piece, plain}
+use Rattle.eh_frame.specs.Commons.{encoding_if, form_of, pointer_field, with_pointer}
 use Rattle.eh_frame.specs.Entries.{op_code, known_advance, advance_piece, op_pieces}
 use Rattle.eh_frame.specs.Reading.{Follows, Rise, EntriesRead, RowsAreMeant}
 
@@ -272,79 +277,119 @@ low_word value rest low =
     let same : value / 16777216 % 256 ≡ value / 16777216 = omega (arith, low) in
     ap (λ last. value % 256 ∷ value / 256 % 256 ∷ value / 65536 % 256 ∷ last ∷ rest) same
 
--- five numbers and the instructions are an entry
-entry_written : (count back first range : ℕ) (code : List ℕ) → count ≡ length code + 13 → count < 2 ^ 32 → back < 2 ^ 32 → first < 2 ^ 32 → range < 2 ^ 32
-    → low_bytes Four count ++ (low_bytes Four back ++ (low_bytes Four first ++ (low_bytes Four range ++ (0 ∷ code)))) ≡ entry_bytes back first range code
-entry_written count back first range code is count_low back_low first_low range_low =
-    low_word count (low_bytes Four back ++ (low_bytes Four first ++ (low_bytes Four range ++ (0 ∷ code)))) count_low
+-- five numbers, the pointer to the LSDA and the instructions are an entry
+entry_written : (count back first range : ℕ) (lsda code : List ℕ) → count ≡ length (lsda ++ code) + 13 → count < 2 ^ 32 → back < 2 ^ 32 → first < 2 ^ 32 → range < 2 ^ 32
+    → low_bytes Four count ++ (low_bytes Four back ++ (low_bytes Four first ++ (low_bytes Four range ++ (length lsda ∷ (lsda ++ code))))) ≡ entry_bytes back first range lsda code
+entry_written count back first range lsda code is count_low back_low first_low range_low =
+    low_word count (low_bytes Four back ++ (low_bytes Four first ++ (low_bytes Four range ++ covered))) count_low
     ∙ ap (λ rest. word_then count rest) (
-    low_word back (low_bytes Four first ++ (low_bytes Four range ++ (0 ∷ code))) back_low
+    low_word back (low_bytes Four first ++ (low_bytes Four range ++ covered)) back_low
     ∙ ap (λ rest. word_then back rest) (
-    low_word first (low_bytes Four range ++ (0 ∷ code)) first_low ∙ ap (λ rest. word_then first rest) (low_word range (0 ∷ code) range_low)
+    low_word first (low_bytes Four range ++ covered) first_low ∙ ap (λ rest. word_then first rest) (low_word range covered range_low)
     )
     )
-    ∙ ap (λ count. word_then count (word_then back (word_then first (word_then range (0 ∷ code))))) is
+    ∙ ap (λ count. word_then count (word_then back (word_then first (word_then range covered)))) is
+  where
+    covered : List ℕ
+    covered = length lsda ∷ (lsda ++ code)
 
-entry_length : (count back first range : ℕ) (code : List ℕ)
-    → length (low_bytes Four count ++ (low_bytes Four back ++ (low_bytes Four first ++ (low_bytes Four range ++ (0 ∷ code))))) ≡ length code + 17
-entry_length count back first range code =
-    let a : length (low_bytes Four range ++ (0 ∷ code)) ≡ length code + 1 + 4 = low_more range (0 ∷ code) ∙ (let one : length code + 1 + 4 ≡ length code + 1 + 4 = refl in omega arith) in
-    let b : length (low_bytes Four first ++ (low_bytes Four range ++ (0 ∷ code))) ≡ length (low_bytes Four range ++ (0 ∷ code)) + 4 = low_more first (low_bytes Four range ++ (0 ∷ code)) in
-    let c : length (low_bytes Four back ++ (low_bytes Four first ++ (low_bytes Four range ++ (0 ∷ code)))) ≡ length (low_bytes Four first ++ (low_bytes Four range ++ (0 ∷ code))) + 4 = low_more back (low_bytes Four first ++ (low_bytes Four range ++ (0 ∷ code))) in
-    let d : length (low_bytes Four count ++ (low_bytes Four back ++ (low_bytes Four first ++ (low_bytes Four range ++ (0 ∷ code))))) ≡ length (low_bytes Four back ++ (low_bytes Four first ++ (low_bytes Four range ++ (0 ∷ code)))) + 4 = low_more count (low_bytes Four back ++ (low_bytes Four first ++ (low_bytes Four range ++ (0 ∷ code)))) in
+entry_length : (count back first range size : ℕ) (rest : List ℕ)
+    → length (low_bytes Four count ++ (low_bytes Four back ++ (low_bytes Four first ++ (low_bytes Four range ++ (size ∷ rest))))) ≡ length rest + 17
+entry_length count back first range size rest =
+    let a : length (low_bytes Four range ++ (size ∷ rest)) ≡ length rest + 1 + 4 = low_more range (size ∷ rest) ∙ (let one : length rest + 1 + 4 ≡ length rest + 1 + 4 = refl in omega arith) in
+    let b : length (low_bytes Four first ++ (low_bytes Four range ++ (size ∷ rest))) ≡ length (low_bytes Four range ++ (size ∷ rest)) + 4 = low_more first (low_bytes Four range ++ (size ∷ rest)) in
+    let c : length (low_bytes Four back ++ (low_bytes Four first ++ (low_bytes Four range ++ (size ∷ rest)))) ≡ length (low_bytes Four first ++ (low_bytes Four range ++ (size ∷ rest))) + 4 = low_more back (low_bytes Four first ++ (low_bytes Four range ++ (size ∷ rest))) in
+    let d : length (low_bytes Four count ++ (low_bytes Four back ++ (low_bytes Four first ++ (low_bytes Four range ++ (size ∷ rest))))) ≡ length (low_bytes Four back ++ (low_bytes Four first ++ (low_bytes Four range ++ (size ∷ rest)))) + 4 = low_more count (low_bytes Four back ++ (low_bytes Four first ++ (low_bytes Four range ++ (size ∷ rest)))) in
     omega (arith, a, b, c, d)
+
+-- a pointer has as many bytes as its encoding says
+field_long : (wide : Bool) (value : ℕ) → length (low_bytes (if wide then Eight else Four) value) ≡ (if wide then 8 else 4)
+unfolding low_bytes
+field_long true value = refl
+field_long false value = refl
+
+-- the bytes of a pointer, where there is one, before those of other pieces
+pub record SplitPointer (address : SectionPlace → ℕ) (here : ℕ) (pointer : Option Pointer) (pieces : List Piece) (mades : List Made) : Type 0 where
+  pub bytes : List ℕ
+  pub sized : length bytes ≡ size_if (encoding_if pointer)
+  pub later : List Made
+  pub all : pieces_bytes (with_pointer pointer pieces) mades ≡ bytes ++ pieces_bytes pieces later
+  pub place : ℕ
+  pub made : AreMade address place pieces later
+
+pub split_pointer : (address : SectionPlace → ℕ) (here : ℕ) (pointer : Option Pointer) (pieces : List Piece) (mades : List Made)
+    → AreMade address here (with_pointer pointer pieces) mades → SplitPointer address here pointer pieces mades
+split_pointer address here None pieces mades made = record { bytes = []; sized = refl; later = mades; all = refl; place = here; made = made }
+split_pointer address here (Some pointer) pieces [] made = absurd made
+split_pointer address here (Some pointer) pieces (one ∷ mades) made = record {
+  bytes = low_bytes (pointer_field pointer.encoding) one.value;
+  sized = field_long (is_wide pointer.encoding) one.value;
+  later = mades;
+  all = refl;
+  place = here + length (low_bytes (pointer_field pointer.encoding) one.value);
+  made = made.1;
+}
 
 -- what is said of written entries
 abbrev pub EntriesReadBack : Type 0
-EntriesReadBack = (at padding back first range : ℕ) (lines : List Line) → AreLines 0 lines → back < 2 ^ 32 → 0 < back → first < 2 ^ 32 → range < 2 ^ 32
-    → length (bytes_of padding 0 lines) + 13 < 0xfffffff0
-    → row_of common_bytes (entry_bytes back first range (bytes_of padding 0 lines)) at ≡ row_due at range lines
+EntriesReadBack = (form : CommonForm) (pointer lsda : List ℕ) (at padding back first range : ℕ) (lines : List Line) → length pointer ≡ size_if form.personality
+    → length lsda ≡ size_if form.lsda → AreLines 0 lines → back < 2 ^ 32 → 0 < back → first < 2 ^ 32 → range < 2 ^ 32
+    → length (lsda ++ bytes_of padding 0 lines) + 13 < 0xfffffff0
+    → row_of (common_entry form pointer) (entry_bytes back first range lsda (bytes_of padding 0 lines)) at ≡ row_due at range lines
 
 -- the numbers of an entry, and its instructions as lines
-made_reads : EntriesReadBack → (address : SectionPlace → ℕ) (here : ℕ) (common end : SectionPlace) (frame : Frame) (at count back first range : ℕ) (code : List ℕ)
+made_reads : EntriesReadBack → (address : SectionPlace → ℕ) (here : ℕ) (common end : SectionPlace) (frame : Frame) (pointer lsda : List ℕ) (at count back first range : ℕ) (code : List ℕ)
+    → length pointer ≡ size_if (encoding_if frame.personality) → length lsda ≡ size_if (encoding_if frame.lsda)
     → count < 2 ^ 64 → wrapped (count + here) ≡ wrapped (address end + (2 ^ 64 - 4)) → back < 2 ^ 64 → wrapped (back + address common) ≡ wrapped (here + 4 + 0)
     → first < 2 ^ 32 → range ≡ stands_at address frame.section (stop_of frame) - stands_at address frame.section frame.start
-    → stands_at address frame.section (stop_of frame) < 2 ^ 32 → address common ≤ here → address end ≡ here + (length code + 17) → here + (length code + 17) < 0xfffffff0
-    → IsSome (rows_after frame.ops) → AsLines (from_start address frame) 0 frame.ops code
-    → row_of common_bytes (low_bytes Four count ++ (low_bytes Four back ++ (low_bytes Four first ++ (low_bytes Four range ++ (0 ∷ code))))) at ≡ row_meant address frame at
-made_reads reads address here common end frame at count back first range code count_within counts back_within backs first_low ranges low behind ends short run lines =
-    let counted : count ≡ length code + 13 = omega (arith, count_within, counts, ends, short) in
+    → stands_at address frame.section (stop_of frame) < 2 ^ 32 → address common ≤ here → address end ≡ here + (length (lsda ++ code) + 17)
+    → here + (length (lsda ++ code) + 17) < 0xfffffff0 → IsSome (rows_after frame.ops) → AsLines (from_start address frame) 0 frame.ops code
+    → row_of (common_entry (form_of frame) pointer)
+    (low_bytes Four count ++ (low_bytes Four back ++ (low_bytes Four first ++ (low_bytes Four range ++ (length lsda ∷ (lsda ++ code)))))) at ≡ row_meant address frame at
+made_reads reads address here common end frame pointer lsda at count back first range code reaches sized count_within counts back_within backs first_low ranges low behind ends short run lines =
+    let counted : count ≡ length (lsda ++ code) + 13 = omega (arith, count_within, counts, ends, short) in
     let back_is : back ≡ here + 4 - address common = omega (arith, back_within, backs, behind, short) in
     let count_low : count < 2 ^ 32 = omega (arith, counted, short) in
     let back_low : back < 2 ^ 32 = omega (arith, back_is, short) in
     let back_some : 0 < back = omega (arith, back_is, behind) in
     let range_low : range < 2 ^ 32 = omega (arith, ranges, low) in
-    let long : length (bytes_of lines.padding 0 lines.lines) ≡ length code = sym (ap length lines.written) in
-    ap (λ bytes. row_of common_bytes bytes at) (entry_written count back first range code counted count_low back_low first_low range_low)
-    ∙ ap (λ code. row_of common_bytes (entry_bytes back first range code) at) lines.written
-    ∙ reads at lines.padding back first range lines.lines lines.are back_low back_some first_low range_low (omega (arith, long, short))
+    let long : length (lsda ++ bytes_of lines.padding 0 lines.lines) ≡ length (lsda ++ code) = sym (ap (λ code. length (lsda ++ code)) lines.written) in
+    ap (λ bytes. row_of (common_entry (form_of frame) pointer) bytes at) (entry_written count back first range lsda code counted count_low back_low first_low range_low)
+    ∙ ap (λ code. row_of (common_entry (form_of frame) pointer) (entry_bytes back first range lsda code) at) lines.written
+    ∙ reads (form_of frame) pointer lsda at lines.padding back first range lines.lines reaches sized lines.are back_low back_some first_low range_low (omega (arith, long, short))
     ∙ ap (λ (range : ℕ). row_due at range lines.lines) ranges
     ∙ ap (λ (ops : List Placed). if nat_lt at (from_start address frame (stop_of frame)) then row_after common_row at ops (start_rows common_row) else None) lines.placed
     ∙ ap (λ (row : Option CfaRow). if nat_lt at (from_start address frame (stop_of frame)) then row else None) (meant_row address frame at run)
 
 pub entries_read : AdvancesHold → EntriesReadBack → EntriesRead
-entries_read hold reads address here common end log frame [] at entry = absurd entry.made
-entries_read hold reads address here common end log frame (count ∷ []) at entry = absurd entry.made.1
-entries_read hold reads address here common end log frame (count ∷ back ∷ []) at entry = absurd entry.made.1.1
-entries_read hold reads address here common end log frame (count ∷ back ∷ first ∷ []) at entry = absurd entry.made.1.1.1
-entries_read hold reads address here common end log frame (count ∷ back ∷ first ∷ range ∷ []) at entry = absurd entry.made.1.1.1.1
-entries_read hold reads address here common end log frame (count ∷ back ∷ first ∷ range ∷ none ∷ mades) at entry =
+entries_read hold reads address here common end log frame [] pointer at entry is = absurd entry.made
+entries_read hold reads address here common end log frame (count ∷ []) pointer at entry is = absurd entry.made.1
+entries_read hold reads address here common end log frame (count ∷ back ∷ []) pointer at entry is = absurd entry.made.1.1
+entries_read hold reads address here common end log frame (count ∷ back ∷ first ∷ []) pointer at entry is = absurd entry.made.1.1.1
+entries_read hold reads address here common end log frame (count ∷ back ∷ first ∷ range ∷ []) pointer at entry is = absurd entry.made.1.1.1.1
+entries_read hold reads address here common end log frame (count ∷ back ∷ first ∷ range ∷ size ∷ mades) pointer at entry is =
     let section : ℕ = frame.section in
-    let code : List ℕ = pieces_bytes (op_pieces frame.section log frame.start frame.ops) mades in
+    let ops : List Piece = op_pieces frame.section log frame.start frame.ops in
+    let lsda = split_pointer address _ frame.lsda ops mades entry.made.1.1.1.1.1 in
+    let code : List ℕ = pieces_bytes ops lsda.later in
+    let rest : List ℕ = pieces_bytes (with_pointer frame.lsda ops) mades in
+    let words : ℕ → List ℕ → List ℕ = λ size rest. low_bytes Four count.value ++ (low_bytes Four back.value ++ (low_bytes Four first.value ++ (low_bytes Four range.value ++ (size ∷ rest)))) in
     let counts : IsSpan address here (record { to = At end; from = Here; plus = 2 ^ 64 - 4 }) count.value = entry.made.0 in
     let backs : IsSpan address (here + length (low_bytes Four count.value)) (record { to = Here; from = At common; plus = 0 }) back.value = entry.made.1.0 in
     let ranges = entry.made.1.1.1.0 in
-    let long : length (low_bytes Four count.value ++ (low_bytes Four back.value ++ (low_bytes Four first.value ++ (low_bytes Four range.value ++ (0 ∷ code))))) ≡ length code + 17 =
-    entry_length count.value back.value first.value range.value code in
+    let long : length (words (size_if (encoding_if frame.lsda)) rest) ≡ length (lsda.bytes ++ code) + 17 =
+    entry_length count.value back.value first.value range.value (size_if (encoding_if frame.lsda)) rest ∙ ap (λ rest. length rest + 17) lsda.all in
     let rises : stands_at address frame.section frame.start ≤ stands_at address frame.section (stop_of frame) =
     rise_ends address frame.section frame.start frame.ops (stop_of frame) entry.rise in
     let far : range.value ≡ stands_at address frame.section (stop_of frame) - stands_at address frame.section frame.start =
     span_value range.value (stands_at address frame.section frame.start) (stands_at address frame.section (stop_of frame)) ranges.within ranges.spans rises entry.low in
     let zero_here : stands_at address frame.section frame.start - stands_at address frame.section frame.start ≡ 0 = omega arith in
     let lines = ops_lines address frame.section log (stands_at address frame.section frame.start) hold frame.start frame.ops (stop_of frame) (omega arith) entry.rise
-    entry.low entry.whole.sound.written _ mades entry.made.1.1.1.1.1 in
+    entry.low entry.whole.sound.written lsda.place lsda.later lsda.made in
     let from_zero : AsLines (from_start address frame) 0 frame.ops code =
     subst (λ (n : ℕ). AsLines (from_start address frame) n frame.ops code) zero_here lines in
-    made_reads reads address here common end frame at count.value back.value first.value range.value code counts.within counts.spans backs.within
+    ap (λ rest. row_of (common_entry (form_of frame) pointer) (words (size_if (encoding_if frame.lsda)) rest) at) lsda.all
+    ∙ ap (λ size. row_of (common_entry (form_of frame) pointer) (words size (lsda.bytes ++ code)) at) (sym lsda.sized)
+    ∙ made_reads reads address here common end frame pointer lsda.bytes at count.value back.value first.value range.value code is lsda.sized counts.within counts.spans backs.within
     (ap (λ n. wrapped (back.value + address common)) (low_length count.value) ∙ backs.spans ∙ ap (λ n. wrapped (here + n + 0)) (low_length count.value))
     entry.made.1.1.0 far entry.low entry.behind (entry.ends ∙ ap (λ n. here + n) long) (subst (λ (n : ℕ). here + n < 0xfffffff0) long entry.short) entry.whole.sound.run from_zero

@@ -17,7 +17,7 @@ use Rattle.eh_frame.specs.Refused.{HasZerosAlone}
 module _ (frame : Frame) (frames : List Frame) (tables : Tables) where
   -- the table, unless its section takes zeros alone
   abbrev placed_if : Bool → ℕ → Result Tables FragCause
-  placed_if zeros number = if zeros then Err BadSection else Ok (table_put number frame.pos (frame ∷ frames) tables)
+  placed_if zeros number = if zeros then Err BadSection else Ok (table_put number frame (frame ∷ frames) tables)
 
   by_type : (number : ℕ) (held : LooseSection) (zeros : Bool) → section_number (codes ".eh_frame") tables.sections ≡ Some number
       → slice_get tables.sections number ≡ Some held → takes_zeros_alone held ≡ zeros
@@ -26,7 +26,7 @@ module _ (frame : Frame) (frames : List Frame) (tables : Tables) where
   by_type number held false named there zeros is = absurd (let none : ⊥ = cc in none)
 
   by_section : (number : ℕ) (held : Option LooseSection) → section_number (codes ".eh_frame") tables.sections ≡ Some number
-      → slice_get tables.sections number ≡ held → placed_there number held frame.pos (frame ∷ frames) tables ≡ Err BadSection → HasZerosAlone tables.sections
+      → slice_get tables.sections number ≡ held → placed_there number held frame (frame ∷ frames) tables ≡ Err BadSection → HasZerosAlone tables.sections
   by_section number None named there is =
       let within : number < length tables.sections = (position-Some (is_section_named (codes ".eh_frame")) tables.sections number new_table named).0 in
       let found : slice_get tables.sections number ≡ Some (get_or tables.sections number new_table) = slice_get-get_or tables.sections number new_table within in
@@ -34,7 +34,7 @@ module _ (frame : Frame) (frames : List Frame) (tables : Tables) where
   by_section number (Some held) named there is = by_type number held (takes_zeros_alone held) named there refl is
 
   by_number : (found : Option ℕ) → section_number (codes ".eh_frame") tables.sections ≡ found
-      → placed_in found frame.pos (frame ∷ frames) tables ≡ Err BadSection → HasZerosAlone tables.sections
+      → placed_in found frame (frame ∷ frames) tables ≡ Err BadSection → HasZerosAlone tables.sections
   by_number None named is = absurd (let none : ⊥ = cc in none)
   by_number (Some number) named is = by_section number (slice_get tables.sections number) named refl is
 
@@ -45,8 +45,8 @@ module _ (frame : Frame) (frames : List Frame) (tables : Tables) where
   there_refused : HasZerosAlone tables.sections → placed (frame ∷ frames) tables ≡ Err BadSection
   unfolding placed
   there_refused zeros =
-      ap (λ found. placed_in found frame.pos (frame ∷ frames) tables) zeros.named
-      ∙ ap (λ held. placed_there zeros.number held frame.pos (frame ∷ frames) tables) zeros.there
+      ap (λ found. placed_in found frame (frame ∷ frames) tables) zeros.named
+      ∙ ap (λ held. placed_there zeros.number held frame (frame ∷ frames) tables) zeros.there
       ∙ ap (λ b. placed_if b zeros.number) (eq-eqb zeros.held.kind 8 zeros.kind)
 
 pub nothing_placed : (tables : Tables) → placed [] tables ≡ Ok tables

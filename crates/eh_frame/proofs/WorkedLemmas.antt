@@ -25,4 +25,7 @@ worked = record {
   aligned = refl;
   made = refl;
   behind = refl;
+  pointed_bytes = refl;
+  pointed_offsets = refl;
+  shared = refl;
 }

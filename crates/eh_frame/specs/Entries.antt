@@ -8,12 +8,14 @@ use Rattle.asm_base.specs.declared.places.Place.{Place}
 use Rattle.asm_base.specs.declared.places.SectionPlace.{SectionPlace}
 use Rattle.cfi_directives.specs.Meant.{place_in, stop_of}
 use Rattle.cfi_rows.specs.declared.rows.CfiOp.{CfiOp}
+use Rattle.cfi_rows.specs.Pointers.{size_if}
 use Rattle.cfi_rows.specs.Written.{written}
 use Rattle.item_bytes.specs.Advances.{advance_bytes}
 use Rattle.table_pieces.specs.declared.ends.SectionEnd.{SectionEnd}
 use Rattle.table_pieces.specs.declared.marks.Mark.TheVariants.{Here, At}
 use Rattle.table_pieces.specs.Ends.{behind_plain, behind_pieces, end_place}
 use Rattle.table_pieces.specs.Pieces.{Piece, plain, number, pointer, advance, padding}
+use Rattle.eh_frame.specs.Commons.{encoding_if, with_pointer}
 
 -- the bytes of an instruction
 abbrev pub op_code : CfiOp → List ℕ
@@ -38,14 +40,15 @@ abbrev pub op_pieces : ℕ → ℕ → Place → List PlacedOp → List Piece
 op_pieces section log last [] = padding log ∷ []
 op_pieces section log last (placed ∷ ops) = with_op section last placed (op_pieces section log placed.place ops)
 
--- what the length of an entry counts: the distance back to the common entry, the start, the range, no augmentation data, the instructions and the padding
+-- what the length of an entry counts: the distance back to the common entry, the start, the range, the length of the augmentation data, which is the pointer
+-- to the LSDA where there is one, the instructions and the padding
 abbrev pub counted_pieces : SectionPlace → ℕ → Frame → List Piece
 counted_pieces common log frame =
     number (record { to = Here; from = At common; plus = 0 })
     ∷ pointer (place_in frame.section frame.start)
     ∷ number (record { to = At (place_in frame.section (stop_of frame)); from = At (place_in frame.section frame.start); plus = 0 })
-    ∷ plain (0 ∷ [])
-    ∷ op_pieces frame.section log frame.start frame.ops
+    ∷ plain (size_if (encoding_if frame.lsda) ∷ [])
+    ∷ with_pointer frame.lsda (op_pieces frame.section log frame.start frame.ops)
 
 -- the length: from behind its own four bytes to the end
 abbrev pub length_piece : SectionPlace → Piece

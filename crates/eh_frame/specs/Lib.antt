@@ -1,6 +1,8 @@
 -- The definitions that contracts cite, in reading order.
+pub mod Commons
 pub mod Entries
 pub mod Placing
+pub mod Progress
 pub mod Refused
 pub mod FoundTables
 pub mod StandingFrames

@@ -6,8 +6,11 @@ use Rattle.asm_base.specs.declared.places.Place.{Place}
 use Rattle.asm_base.specs.declared.places.SectionPlace.{SectionPlace}
 use Rattle.cfi_directives.specs.Meant.{from_start, row_meant, stands_at, stop_of}
 use Rattle.cfi_directives.specs.Sound.{IsWhole}
-use Rattle.cfi_rows.specs.Entries.{common_bytes, row_of}
+use Rattle.cfi_rows.specs.Commons.{common_entry}
+use Rattle.cfi_rows.specs.Entries.{row_of}
+use Rattle.cfi_rows.specs.Pointers.{size_if}
 use Rattle.table_pieces.specs.Made.{Made, pieces_bytes, AreMade}
+use Rattle.eh_frame.specs.Commons.{encoding_if, form_of}
 use Rattle.eh_frame.specs.Entries.{counted_pieces, length_piece}
 
 module _ (address : SectionPlace → ℕ) where
@@ -32,11 +35,11 @@ module _ (address : SectionPlace → ℕ) where
     pub short : here + length (pieces_bytes (length_piece end ∷ counted_pieces common log frame) mades) < 0xfffffff0
 
 -- wherever places stand, and whatever sizes layout gives to the advances and the padding, if each advance holds its distance: the bytes of the common
--- entry and of an entry read at each place as the row that the directives of its procedure mean there
+-- entry, with any pointer to the personality, and of an entry read at each place as the row that the directives of its procedure mean there
 abbrev pub EntriesRead : Type 0
-EntriesRead = (address : SectionPlace → ℕ) (here : ℕ) (common end : SectionPlace) (log : ℕ) (frame : Frame) (mades : List Made) (at : ℕ)
-    → IsEntry address here common end log frame mades
-    → row_of common_bytes (pieces_bytes (length_piece end ∷ counted_pieces common log frame) mades) at ≡ row_meant address frame at
+EntriesRead = (address : SectionPlace → ℕ) (here : ℕ) (common end : SectionPlace) (log : ℕ) (frame : Frame) (mades : List Made) (pointer : List ℕ) (at : ℕ)
+    → IsEntry address here common end log frame mades → length pointer ≡ size_if (encoding_if frame.personality)
+    → row_of (common_entry (form_of frame) pointer) (pieces_bytes (length_piece end ∷ counted_pieces common log frame) mades) at ≡ row_meant address frame at
 
 -- the directives of a whole procedure mean a row at each place of it
 abbrev pub RowsAreMeant : Type 0

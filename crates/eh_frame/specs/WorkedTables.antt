@@ -3,6 +3,7 @@ use Rattle.std.specs.Prelude.{◌≡◌, ℕ, pos, neg_ℤ, List, [], ◌∷◌,
 use Rattle.std.specs.Option.{option_map}
 use Rattle.asm_base.specs.declared.causes.FragCause.{FragCause}
 use Rattle.asm_base.specs.declared.causes.FragCause.TheVariants.{BadSection}
+use Rattle.asm_expr.specs.Forms.{symbol_form}
 use Rattle.asm_frags.specs.Alignments.{alignment_of_all}
 use Rattle.asm_frags.specs.SectionOf.{new_section}
 use Rattle.asm_frags.specs.Sections.{section_flags}
@@ -15,9 +16,11 @@ use Rattle.asm_base.specs.declared.places.SectionPlace.{SectionPlace}
 use Rattle.cfi_rows.specs.declared.rows.CfiOp.{CfiOp}
 use Rattle.cfi_rows.specs.declared.rows.CfiOp.TheVariants.{DefCfa, DefCfaRegister, DefCfaOffset, Set}
 use Rattle.cfi_rows.specs.declared.rows.Rule.TheVariants.{Offset}
-use Rattle.cfi_rows.specs.Entries.{common_bytes}
+use Rattle.cfi_rows.specs.declared.pointers.PointerEncoding.TheVariants.{Relative4, Indirect4}
+use Rattle.cfi_rows.specs.Commons.{common_bytes, common_entry}
 use Rattle.table_pieces.specs.Made.{Made, pieces_bytes}
 use Rattle.table_pieces.specs.Pieces.{Tables, tables_of}
+use Rattle.eh_frame.specs.Commons.{form_of}
 use Rattle.eh_frame.specs.Entries.{counted_pieces, length_piece}
 use Rattle.eh_frame.specs.Placing.{placed}
 
@@ -32,7 +35,7 @@ op_at place op = record { place = place; op = op }
 -- a procedure from line 3 on
 abbrev pub procedure : Place → List PlacedOp → Frame
 procedure stop ops =
-    record { pos = record { file = 0; line = 3 }; section = 0; start = at_place 0 0; stop = Some stop; ops = ops }
+    record { pos = record { file = 0; line = 3 }; section = 0; start = at_place 0 0; stop = Some stop; personality = None; lsda = None; ops = ops }
 
 -- .cfi_startproc; push %rbp; .cfi_def_cfa_offset 16; .cfi_offset 6,-16; mov %rsp,%rbp; .cfi_def_cfa_register 6; pop %rbp; .cfi_def_cfa 7,8; ret;
 -- .cfi_endproc
@@ -45,6 +48,13 @@ framed = procedure (at_place 1 6) (
 -- .cfi_startproc; .zero 63 or .zero 64; .cfi_def_cfa_offset 16; .cfi_endproc
 abbrev pub spaced : Frame
 spaced = procedure (at_place 1 0) (op_at (at_place 1 0) (DefCfaOffset (pos 16)) ∷ [])
+
+-- the same with a personality and an LSDA
+abbrev pub pointed : Frame
+pointed = record spaced {
+  personality = Some (record { encoding = Indirect4; target = symbol_form 0 });
+  lsda = Some (record { encoding = Relative4; target = symbol_form 0 });
+}
 
 -- the common entry is first in the section, which has number 1
 abbrev pub common_place : SectionPlace
@@ -108,3 +118,11 @@ pub record WorkedTables : Type 0 where
   pub made : of_table header (placed (spaced ∷ []) (tables_with [])) ≡ Some (codes ".eh_frame", 2, 1, 0)
   pub behind : of_table (λ held. held.bytes) (placed (spaced ∷ []) (tables_with (record (table_of_type 1) { bytes = 7 ∷ 0 ∷ [] } ∷ [])))
       ≡ Some (7 ∷ 0 ∷ common_bytes ++ (fields_blank ++ (0x00 ∷ 0x0e ∷ 0x10 ∷ [])))
+  pub pointed_bytes : of_table (λ held. held.bytes) (placed (pointed ∷ []) (tables_with []))
+      ≡ Some (common_entry (form_of pointed) (replicate 4 0) ++ (fields_blank ++ (0x04 ∷ (replicate 4 0 ++ (0x0e ∷ 0x10 ∷ [])))))
+  pub pointed_offsets : of_table (λ held. map (λ field. field.offset) held.fields) (placed (pointed ∷ []) (tables_with []))
+      ≡ Some (19 ∷ 32 ∷ 36 ∷ 40 ∷ 44 ∷ 49 ∷ 53 ∷ [])
+  pub shared : of_table (λ held. held.bytes) (placed (spaced ∷ pointed ∷ spaced ∷ []) (tables_with []))
+      ≡ Some (common_bytes ++ (fields_blank ++ (0x00 ∷ 0x0e ∷ 0x10 ∷ []))
+      ++ (common_entry (form_of pointed) (replicate 4 0) ++ (fields_blank ++ (0x04 ∷ (replicate 4 0 ++ (0x0e ∷ 0x10 ∷ [])))))
+      ++ (fields_blank ++ (0x00 ∷ 0x0e ∷ 0x10 ∷ [])))

@@ -9,6 +9,7 @@ ghost use Rattle.table_pieces.specs.Pieces.{Piece, Takes, piece_put, pieces_put,
 ghost use Rattle.eh_frame.specs.Entries as spec;
 
 use crate::advances::known_advance;
+use crate::commons::{behind_pointer_if, put_pointer_if};
 use arrayvec::ArrayVec;
 use asm_base::{Place, SectionPlace};
 use asm_frags::{FragFault, Sections};
@@ -87,6 +88,7 @@ fn behind_entry(end: SectionEnd, frame: &Frame) -> Option<SectionEnd>
         .behind_plain(4)?
         .behind_plain(4)?
         .behind_plain(1)?;
+    let code = behind_pointer_if(code, &frame.lsda)?;
     behind_ops(code, frame.start, frame.ops.as_slice())
 }
 
@@ -182,7 +184,12 @@ fn put_head(
         0,
     );
     put_number(alloc, symbols, sections, table, range)?;
-    put_plain(symbols, sections, table, &[0])
+    let size = match &frame.lsda {
+        Some(pointer) => pointer.encoding.size(),
+        None => 0,
+    };
+    put_plain(symbols, sections, table, &[size])?;
+    put_pointer_if(alloc, symbols, sections, table, &frame.lsda)
 }
 
 /// Puts the entry of a procedure behind this end of the section, padded to a multiple of 2^log, and answers the end behind

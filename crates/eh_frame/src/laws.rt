@@ -3,15 +3,12 @@
 ghost use Rattle.std.specs.Prelude.{◌≡◌, ◌↔◌, ℕ, List, [], ◌∷◌, All, Ok, Err};
 ghost use Rattle.section_laws.specs.Within.{IsWithin};
 ghost use Rattle.eh_frame.specs.FoundTables.{IsPlaced};
-ghost use Rattle.asm_base.specs.declared.positions.Pos.{Pos as PosValue};
 ghost use Rattle.asm_base.specs.declared.causes.FragCause.TheVariants.{BadSection};
 ghost use Rattle.cfi_directives.specs.declared.frames.Frame.{Frame as FrameValue};
-ghost use Rattle.asm_base.specs.declared.places.SectionPlace.{SectionPlace as PlaceValue};
-ghost use Rattle.table_pieces.specs.declared.ends.SectionEnd.{SectionEnd as EndValue};
 ghost use Rattle.table_pieces.specs.Labels.{GetsLabels};
 ghost use Rattle.table_pieces.specs.Pieces.{Tables};
 ghost use Rattle.table_pieces.specs.Standing.{OneExtends};
-ghost use Rattle.eh_frame.specs.Placing.{entries_put, placed, table_put};
+ghost use Rattle.eh_frame.specs.Placing.{Putting, entries_put, placed, table_put};
 ghost use Rattle.eh_frame.specs.Additions.{TablesAddLittle};
 ghost use Rattle.eh_frame.specs.Refused.{HasZerosAlone};
 ghost use Rattle.eh_frame.specs.WorkedTables.{WorkedTables};
@@ -26,8 +23,8 @@ use table_pieces::{
 };
 
 /// Wherever places stand, and whatever sizes layout gives to the advances and the padding, if each advance holds its
-/// distance: the bytes of the common entry and of an entry read, at each place, as the row that the directives of the
-/// entry's procedure mean there, and none where it has ended.
+/// distance: the bytes of the common entry, with any pointer to the personality, and of an entry read, at each place, as the
+/// row that the directives of the entry's procedure mean there, and none where it has ended.
 pub fn entries_read()
     ensures read { EntriesRead }
     ensures meant { RowsAreMeant }
@@ -38,19 +35,19 @@ pub fn entries_read()
 
 /// A table stands behind all that was in its section, which stays as it is, and so do all other sections.
 pub fn tables_stand_behind()
-    ensures entries { (section : ℕ) (common : PlaceValue) (end : EndValue)
-        → (frames : List FrameValue) (tables : Tables) → OneExtends section tables.sections
-        (entries_put section common end frames tables).sections }
-    ensures table { (section : ℕ) (pos : PosValue) (frames : List FrameValue) (tables : Tables)
-        → OneExtends section tables.sections (table_put section pos frames tables).sections }
+    ensures entries { (section : ℕ) (frames : List FrameValue) (putting : Putting)
+        → OneExtends section putting.tables.sections
+        (entries_put section frames putting).tables.sections }
+    ensures table { (section : ℕ) (first : FrameValue) (frames : List FrameValue) (tables : Tables)
+        → OneExtends section tables.sections (table_put section first frames tables).sections }
 {
     pieces_stand_behind();
 }
 
 /// A table adds labels of places alone to the symbols, behind them all.
 pub fn tables_get_labels()
-    ensures { (section : ℕ) (pos : PosValue) (frames : List FrameValue) (tables : Tables)
-        → GetsLabels tables.symbols (table_put section pos frames tables).symbols }
+    ensures { (section : ℕ) (first : FrameValue) (frames : List FrameValue) (tables : Tables)
+        → GetsLabels tables.symbols (table_put section first frames tables).symbols }
 {
     places_are_named();
 }
@@ -70,7 +67,7 @@ pub fn worked_tables()
     ensures { WorkedTables }
 {}
 
-/// The common entry and the entries of a table stand in its section in the end, each where its end is counted to be, where
+/// The common entries and the entries of a table stand in its section in the end, each where its end is counted to be, where
 /// the fields and items of all sections stand within their bytes; and they still do.
 pub fn tables_are_found()
     ensures { (frame : FrameValue) (frames : List FrameValue) (tables after : Tables)

@@ -2,6 +2,7 @@
 #![tactic(auto)]
 
 mod advances;
+mod commons;
 mod entries;
 mod laws;
 mod placing;

@@ -49,32 +49,32 @@ lines_add stay lines tables after is = gets_labels tables.symbols after.symbols 
 
 -- the law of tables
 abbrev pub TablesGetLabels : Type 0
-TablesGetLabels = (section : ℕ) (pos : Pos) (frames : List Frame) (tables : Tables) → GetsLabels tables.symbols (table_put section pos frames tables).symbols
+TablesGetLabels = (section : ℕ) (first : Frame) (frames : List Frame) (tables : Tables) → GetsLabels tables.symbols (table_put section first frames tables).symbols
 
 module _ (law : TablesGetLabels) where
-  put_adds : (section : ℕ) (pos : Pos) (frames : List Frame) (tables after : Tables) → (let made : Result Tables FragCause = Ok (table_put section pos frames tables) in made ≡ Ok after)
+  put_adds : (section : ℕ) (first : Frame) (frames : List Frame) (tables after : Tables) → (let made : Result Tables FragCause = Ok (table_put section first frames tables) in made ≡ Ok after)
       → AddsLabels tables.symbols after.symbols
-  put_adds section pos frames tables after is =
-      subst (λ (made : Tables). AddsLabels tables.symbols made.symbols) (same_Ok (table_put section pos frames tables) after is)
-      (gets_labels tables.symbols (table_put section pos frames tables).symbols (law section pos frames tables))
+  put_adds section first frames tables after is =
+      subst (λ (made : Tables). AddsLabels tables.symbols made.symbols) (same_Ok (table_put section first frames tables) after is)
+      (gets_labels tables.symbols (table_put section first frames tables).symbols (law section first frames tables))
 
-  held_adds : (section : ℕ) (b : Bool) (pos : Pos) (frames : List Frame) (tables after : Tables) → cond b (Err BadSection) (Ok (table_put section pos frames tables)) ≡ Ok after
+  held_adds : (section : ℕ) (b : Bool) (first : Frame) (frames : List Frame) (tables after : Tables) → cond b (Err BadSection) (Ok (table_put section first frames tables)) ≡ Ok after
       → AddsLabels tables.symbols after.symbols
-  held_adds section true pos frames tables after is = err-ok BadSection after is
-  held_adds section false pos frames tables after is = put_adds section pos frames tables after is
+  held_adds section true first frames tables after is = err-ok BadSection after is
+  held_adds section false first frames tables after is = put_adds section first frames tables after is
 
-  there_adds : (section : ℕ) (found : Option LooseSection) (pos : Pos) (frames : List Frame) (tables after : Tables) → placed_there section found pos frames tables ≡ Ok after
+  there_adds : (section : ℕ) (found : Option LooseSection) (first : Frame) (frames : List Frame) (tables after : Tables) → placed_there section found first frames tables ≡ Ok after
       → AddsLabels tables.symbols after.symbols
-  there_adds section None pos frames tables after is = err-ok BadSection after is
-  there_adds section (Some held) pos frames tables after is = held_adds section (takes_zeros_alone held) pos frames tables after is
+  there_adds section None first frames tables after is = err-ok BadSection after is
+  there_adds section (Some held) first frames tables after is = held_adds section (takes_zeros_alone held) first frames tables after is
 
-  in_adds : (number : Option ℕ) (pos : Pos) (frames : List Frame) (tables after : Tables) → placed_in number pos frames tables ≡ Ok after → AddsLabels tables.symbols after.symbols
-  in_adds (Some section) pos frames tables after is = there_adds section (slice_get tables.sections section) pos frames tables after is
-  in_adds None pos frames tables after is =
-      put_adds (length tables.sections) pos frames (tables_of tables.symbols (tables.sections ++ new_table ∷ [])) after is
+  in_adds : (number : Option ℕ) (first : Frame) (frames : List Frame) (tables after : Tables) → placed_in number first frames tables ≡ Ok after → AddsLabels tables.symbols after.symbols
+  in_adds (Some section) first frames tables after is = there_adds section (slice_get tables.sections section) first frames tables after is
+  in_adds None first frames tables after is =
+      put_adds (length tables.sections) first frames (tables_of tables.symbols (tables.sections ++ new_table ∷ [])) after is
 
   -- a table adds labels alone
   pub table_adds : (frames : List Frame) (tables after : Tables) → placed frames tables ≡ Ok after → AddsLabels tables.symbols after.symbols
   unfolding placed
   table_adds [] tables after is = subst (λ (made : Tables). AddsLabels tables.symbols made.symbols) (same_Ok tables after is) (none_added tables.symbols)
-  table_adds (frame ∷ frames) tables after is = in_adds (section_number (codes ".eh_frame") tables.sections) frame.pos (frame ∷ frames) tables after is
+  table_adds (frame ∷ frames) tables after is = in_adds (section_number (codes ".eh_frame") tables.sections) frame (frame ∷ frames) tables after is

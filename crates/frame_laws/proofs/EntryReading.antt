@@ -13,6 +13,8 @@ use Rattle.table_pieces.specs.Labels.{PlacesAreLabels}
 use Rattle.table_pieces.specs.Made.{pieces_bytes}
 use Rattle.table_pieces.specs.Pieces.{Piece, number, pointer, plain, Tables, piece_put, pieces_put}
 use Rattle.table_pieces.specs.StandingPlaces.{HoldsItems}
+use Rattle.cfi_rows.specs.Pointers.{size_if}
+use Rattle.eh_frame.specs.Commons.{encoding_if, form_of, with_pointer}
 use Rattle.eh_frame.specs.Entries.{length_piece, counted_pieces, entry_pieces, op_pieces}
 use Rattle.eh_frame.specs.Reading.{Rise, IsEntry, EntriesRead}
 use Rattle.eh_frame.specs.StandingFrames.{FrameStands}
@@ -20,7 +22,8 @@ use Rattle.piece_laws.specs.HeldDistances.{NamesStay}
 use Rattle.piece_laws.specs.LaidTables.{place_address, LaidTable, StandsTo}
 use Rattle.piece_laws.specs.PiecesInFile.{IsNear, AllFit, AreInFile}
 use Rattle.piece_laws.specs.Pointers.{PointsTo}
-use Rattle.frame_laws.specs.TableReads.{EntryReads}
+use Rattle.frame_laws.specs.TableReads.{CommonReads, EntryReads}
+use Rattle.frame_laws.proofs.CommonReading.{pointer_fits, pointer_named}
 use Rattle.frame_laws.proofs.EntryForm.{entry_tells}
 use Rattle.frame_laws.proofs.PieceFacts.{PieceFacts, at_end}
 use Rattle.frame_laws.proofs.Rises.{rise_to, ops_fit}
@@ -39,6 +42,10 @@ module _ (facts : PieceFacts) (t : LaidTable) (frame : Frame) (common : SectionE
   abbrev last : SectionEnd
   last = behind_pieces pieces end
 
+  -- the end behind the length of the augmentation data
+  abbrev covered_end : SectionEnd
+  covered_end = behind_plain 1 (behind_plain 4 (behind_plain 4 (behind_plain 4 (behind_plain 4 end))))
+
   holds : (one : SectionEnd) → StandsTo t.held one → HoldsItems t.sections t.number one.items
   holds one stands = record { held = t.held; there = t.found; enough = stands.items }
 
@@ -52,15 +59,15 @@ module _ (facts : PieceFacts) (t : LaidTable) (frame : Frame) (common : SectionE
       record { one = refl; plus = omega arith; to = tt; from = holds common common_stands } in
       let size : IsNear t.sections t.laid t.number (record { to = At (end_place t.number last); from = Here; plus = 2 ^ 64 - 4 }) =
       record { one = refl; plus = omega arith; to = holds last last_stands; from = tt } in
-      (size, (back, (tt, (range, (tt, ops)))))
+      (size, (back, (tt, (range, (tt, pointer_fits facts t frame.lsda (op_pieces frame.section log frame.start frame.ops) ops)))))
 
   -- the entry of a procedure reads in the file as its directives mean
-  pub entry_reads : EntriesRead → (tables : Tables) → StandsTo t.held common → StandsTo t.held end → at_end t common ≤ at_end t end → PlacesAreLabels tables.symbols
+  pub entry_reads : EntriesRead → CommonReads (image_of t.symbols t.laid) t.symbols t.laid t.number (at_end t common) (form_of frame) frame.personality → (tables : Tables) → StandsTo t.held common → StandsTo t.held end → at_end t common ≤ at_end t end → PlacesAreLabels tables.symbols
       → NamesStay (pieces_put t.number frame.pos pieces tables).symbols t.symbols → PiecesStand t.held t.number frame.pos end tables pieces
       → (made : AreInFile t.symbols t.laid t.number pieces end)
-      × (read : EntryReads (image_of t.symbols t.laid) t.symbols t.laid t.number (at_end t common) (at_end t end) frame)
+      × (read : EntryReads (image_of t.symbols t.laid) t.symbols t.laid t.number (at_end t end) frame)
       × (read.entry ≡ pieces_bytes pieces made.mades)
-  entry_reads read tables common_stands stands behind known stays stand =
+  entry_reads read cie tables common_stands stands behind known stays stand =
       let last_stands = facts.file.ends.pieces t tables frame.pos end pieces stands stand in
       let made = facts.file.pieces t tables frame.pos end (length_piece (end_place t.number last)) (counted_pieces (end_place t.number common) log frame) stands known stays
       (entry_fits common_stands last_stands) stand in
@@ -86,10 +93,23 @@ module _ (facts : PieceFacts) (t : LaidTable) (frame : Frame) (common : SectionE
       let far = rising.low in
       let start_low : address at_start < 2 ^ 64 = omega (arith, rises, far) in
       let front_stands = facts.file.ends.pieces t tables frame.pos end front stands (stand.0, (stand.1.0, tt)) in
-      let tells = entry_tells address (end_place t.number last) (end_place t.number common) at_start (place_in frame.section (stop_of frame))
+      let third = facts.file.ends.run t frame.pos (behind_plain 4 (behind_plain 4 end)) (behind_plain 4 (behind_plain 4 (behind_plain 4 end))) 4 stand.1.1.0.run refl in
+      let fourth = facts.file.ends.run t frame.pos (behind_plain 4 (behind_plain 4 (behind_plain 4 end))) (behind_plain 4 (behind_plain 4 (behind_plain 4 (behind_plain 4 end)))) 4
+      stand.1.1.1.0.run refl in
+      let fifth = facts.file.ends.run t frame.pos (behind_plain 4 (behind_plain 4 (behind_plain 4 (behind_plain 4 end)))) covered_end 1 stand.1.1.1.1.0.0 refl in
+      let lsda_place : at_end t covered_end ≡ at_end t end + 17 = omega (arith, first, second, third, fourth, fifth) in
+      let ops : List Piece = op_pieces frame.section log frame.start frame.ops in
+      let five : List Piece = length_piece (end_place t.number last) ∷ number (record { to = Here; from = At (end_place t.number common); plus = 0 })
+      ∷ pointer (place_in frame.section frame.start)
+      ∷ number (record { to = At (place_in frame.section (stop_of frame)); from = At (place_in frame.section frame.start); plus = 0 })
+      ∷ plain (size_if (encoding_if frame.lsda) ∷ []) ∷ [] in
+      let covered_stands = facts.file.ends.pieces t tables frame.pos end five stands (stand.0, (stand.1.0, (stand.1.1.0, (stand.1.1.1.0, (stand.1.1.1.1.0, tt))))) in
+      let lsda = pointer_named facts t frame.pos covered_end (pieces_put t.number frame.pos five tables) frame.lsda ops (at_end t end + 17) covered_stands stand.1.1.1.1.1 lsda_place in
+      let tells = entry_tells address (end_place t.number last) (end_place t.number common) at_start (place_in frame.section (stop_of frame)) (form_of frame) frame.lsda refl
       (op_pieces frame.section log frame.start frame.ops) (at_end t end) made.mades made.are_made behind reach (omega (arith, low)) rises rising.low in
       let three : Tables = piece_put t.number frame.pos (pointer at_start) two in
-      let rest : List Piece = number (record { to = At (place_in frame.section (stop_of frame)); from = At at_start; plus = 0 }) ∷ plain (0 ∷ []) ∷ op_pieces frame.section log frame.start frame.ops in
+      let rest : List Piece = number (record { to = At (place_in frame.section (stop_of frame)); from = At at_start; plus = 0 })
+      ∷ plain (size_if (encoding_if frame.lsda) ∷ []) ∷ with_pointer frame.lsda ops in
       let points = facts.file.pointers t two.symbols frame.pos (behind_plain 4 (behind_plain 4 end)) at_start
       (facts.labels.known tables.symbols two.symbols known (facts.labels.pieces t.number frame.pos front tables))
       (λ symbol at there. stays symbol at (facts.labels.stays three.symbols (pieces_put t.number frame.pos rest three).symbols symbol at
@@ -97,11 +117,14 @@ module _ (facts : PieceFacts) (t : LaidTable) (frame : Frame) (common : SectionE
         made,
         record {
           entry = pieces_bytes pieces made.mades;
+          common = at_end t common;
+          cie = cie;
           stands = made.stands;
           whole = tells.whole;
           back = tells.back;
           start = subst (λ (offset : ℕ). IsSomeAnd (slice_get t.laid t.number) (λ section. PointsTo t.symbols t.laid t.number section offset at_start)) place points;
-          rows = λ at. read address (at_end t end) (end_place t.number common) (end_place t.number last) log frame made.mades at entry;
+          lsda = lsda;
+          rows = λ at. read address (at_end t end) (end_place t.number common) (end_place t.number last) log frame made.mades cie.pointer at entry cie.sized;
         },
         refl,
       )

@@ -4,8 +4,11 @@ mod LabelSteps
 mod Lists
 mod FourBytes
 mod PieceFacts
+mod SplitPointers
 mod EntryForm
 mod Rises
+mod SharedCommons
+mod CommonReading
 mod EntryReading
 mod PlacedFrames
 mod Tables

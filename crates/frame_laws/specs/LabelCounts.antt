@@ -1,6 +1,5 @@
 -- How many labels a frame table brings.
 use Rattle.std.specs.Prelude.{ℕ, ◌+◌, ◌*◌, ◌≤◌, List, length, All, IsSome, IsSomeAnd, slice_get}
-use Rattle.asm_base.specs.declared.positions.Pos.{Pos}
 use Rattle.cfi_directives.specs.declared.frames.Frame.{Frame}
 use Rattle.cfi_rows.specs.Written.{written}
 use Rattle.table_pieces.specs.Pieces.{Tables, Takes}
@@ -17,5 +16,5 @@ BringsFew section before after =
 
 -- so a frame table brings few labels
 abbrev pub LabelsAreFew : Type 0
-LabelsAreFew = (section : ℕ) (pos : Pos) (frames : List Frame) (tables : Tables) → AreWritten frames → Takes section tables.sections
-    → BringsFew section tables (table_put section pos frames tables)
+LabelsAreFew = (section : ℕ) (first : Frame) (frames : List Frame) (tables : Tables) → AreWritten frames → Takes section tables.sections
+    → BringsFew section tables (table_put section first frames tables)

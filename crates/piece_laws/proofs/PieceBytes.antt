@@ -82,6 +82,7 @@ module _ (facts : PieceFacts) (t : TableSection) where
   piece_stays map pos end (number distance) stands at = field_stays Four pos end (distance_form map distance) stands at
   piece_stays map pos end (pointer place) stands at = field_stays Four pos end (distance_form map (from_here place)) stands at
   piece_stays map pos end (put.address place) stands at = field_stays Eight pos end (address_form map place) stands at
+  piece_stays map pos end (put.field size form) stands at = field_stays size pos end form stands at
   piece_stays map pos end (advance distance) stands at = grown_stays growth.Advance pos end (distance_form map distance) stands at
   piece_stays map pos end (leb128 distance) stands at = grown_stays (growth.Leb128 false) pos end (distance_form map distance) stands at
   piece_stays map pos end (padding log) stands at =
@@ -106,7 +107,7 @@ module _ (facts : PieceFacts) (t : TableSection) where
       }
 
   -- where a field stands, and its bytes
-  field_made : (size : FieldSize) (pos : Pos) (end : SectionEnd) (form : Form) (value : ℕ) (at : FieldBehind size t.held t.number pos end form)
+  pub field_made : (size : FieldSize) (pos : Pos) (end : SectionEnd) (form : Form) (value : ℕ) (at : FieldBehind size t.held t.number pos end form)
       → unwrap_or (held_value t.symbols t.laid (substituted_field (linked t.symbols) (field_behind size t.number pos end form))) 0 ≡ value
       → PieceAt (image facts t) (base facts t + at_end facts t end) (low_bytes size value)
       × (at_end facts t (behind_plain (width size) end) ≡ at_end facts t end + length (low_bytes size value))
@@ -184,6 +185,12 @@ module _ (facts : PieceFacts) (t : TableSection) where
         stands = made.0;
         reach = made.1;
       }
+
+  form_made : (size : FieldSize) (pos : Pos) (end : SectionEnd) (form : Form) → FieldBehind size t.held t.number pos end form → OneMade (put.field size form) end
+  form_made size pos end form at =
+      let value = unwrap_or (held_value t.symbols t.laid (substituted_field (linked t.symbols) (field_behind size t.number pos end form))) 0 in
+      let made = field_made size pos end form value at refl in
+      record { made = record { size = 0; value = value }; is_made = tt; stands = made.0; reach = made.1 }
 
   -- where an item stands, and how far the end moves behind it
   item_made : (pos : Pos) (end : SectionEnd) (content : Content) (value : ℕ) (bytes : ℕ → List ℕ) → (at : ItemAt t.held end.items (item_at pos end content))
@@ -309,6 +316,7 @@ module _ (facts : PieceFacts) (t : TableSection) where
   piece_made tables pos end (number distance) enough known stays fits at = number_made tables.symbols pos end distance enough known stays fits at
   piece_made tables pos end (pointer place) enough known stays fits at = pointer_made tables.symbols pos end place at
   piece_made tables pos end (put.address place) enough known stays fits at = address_made tables.symbols pos end place known stays at
+  piece_made tables pos end (put.field size form) enough known stays fits at = form_made size pos end form at
   piece_made tables pos end (advance distance) enough known stays fits at = advance_made tables.symbols pos end distance known stays fits at
   piece_made tables pos end (leb128 distance) enough known stays fits at = leb128_made tables.symbols pos end distance known stays fits at
   piece_made tables pos end (padding log) enough known stays fits at = padding_made pos end log at

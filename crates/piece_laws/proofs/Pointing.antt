@@ -1,7 +1,7 @@
 -- The fields that the linker fills: their places and their relocations.
 use Rattle.std.proofs.Common.{◌≡◌, ℕ, ◌+◌, ◌^◌, ◌<◌, ◌≤◌, ◌==◌, false, Option, Some, None, length, refl, sym, ap, ◌∙◌, subst, arith}
 use Rattle.std.specs.Prelude.{slice_get, IsSomeAnd}
-use Rattle.std.specs.Option.{option_map_or}
+use Rattle.std.specs.Option.{option_map_or, unwrap_or}
 use Rattle.std.proofs.lemmas.Bool.Decides.{nat_tests}
 use Rattle.std.proofs.lemmas.Option.{slice_get_within}
 use Rattle.asm_base.specs.declared.places.SectionPlace.{SectionPlace}
@@ -16,6 +16,7 @@ use Rattle.asm_frags.specs.Fields.{width, own_place}
 use Rattle.asm_frags.specs.SectionOf.{SectionOf}
 use Rattle.asm_frags.specs.Substituting.{substituted_field}
 use Rattle.assigned_forms.specs.Linked.{linked}
+use Rattle.asm_relax.specs.FieldValues.{held_value}
 use Rattle.asm_relax.specs.Final.{address_in, address_of}
 use Rattle.asm_relax.specs.Settling.{LaidItem}
 use Rattle.elf_object.specs.FieldRelocations.{HasOneRelocation}
@@ -31,14 +32,14 @@ use Rattle.table_pieces.specs.Pieces.{from_here}
 use Rattle.table_pieces.specs.StandingPlaces.{HoldsItems}
 use Rattle.piece_laws.specs.HeldDistances.{NamesStay}
 use Rattle.piece_laws.specs.LaidTables.{place_address, end_address, LaidTable, StandsTo}
-use Rattle.piece_laws.specs.Pointers.{distance_relocation, address_relocation, PointsTo, HoldsAddress, PointersPoint, AddressesAreHeld}
+use Rattle.piece_laws.specs.Pointers.{distance_relocation, address_relocation, PointsTo, HoldsAddress, HoldsForm, PointersPoint, AddressesAreHeld, FormsAreHeld}
 use Rattle.piece_laws.proofs.LocationRelocations.{location_said, address_said}
 use Rattle.piece_laws.proofs.MarkSymbols.{has_distance, has_address}
 use Rattle.piece_laws.proofs.NumberForms.{both_form}
 use Rattle.piece_laws.proofs.Shifts.{shift_rises}
 use Rattle.piece_laws.proofs.SectionInFile as section_in_file
 use Rattle.piece_laws.proofs.TableSections.{PieceFacts, TableSection, table_section, kept, at_end, end_is, kept_long, kept_small}
-use Rattle.piece_laws.proofs.PieceBytes.{run_is, run_enough}
+use Rattle.piece_laws.proofs.PieceBytes.{run_is, run_enough, field_made}
 
 module _ (facts : PieceFacts) (t : TableSection) where
   -- a label is not the field's own place
@@ -164,6 +165,29 @@ module _ (facts : PieceFacts) (t : TableSection) where
             (ap (field_behind Eight t.number pos end) form) there;
       }
 
+  -- the field of a form holds it
+  form_holds : (size : FieldSize) (pos : Pos) (end : SectionEnd) (form : Form) → FieldBehind size t.held t.number pos end form
+      → HoldsForm t.symbols t.laid t.number (kept facts t) (at_end facts t end) size form
+  form_holds size pos end form at =
+      let field = substituted_field (linked t.symbols) (field_behind size t.number pos end form) in
+      let kept_there = section_in_file.kept_there facts.file t.symbols t.sections t.laid t.number t.held t.is t.found t.takes t.low in
+      let there = section_in_file.field_there facts.file t.symbols t.sections t.laid t.number t.held t.is t.found t.takes t.low at.index
+      (field_behind size t.number pos end form) at.field.there in
+      record {
+        index = at.index;
+        field = field;
+        there = there;
+        own = refl;
+        plain = refl;
+        stands = run_is facts t pos end (behind_plain (width size) end).items at.run;
+        sized = refl;
+        role = refl;
+        is_form = refl;
+        bytes = (field_made facts t size pos end form (unwrap_or (held_value t.symbols t.laid field) 0) at refl).0;
+        relocated = λ relocation says. facts.file.one t.symbols t.laid t.number at.index (kept facts t) field relocation
+            (record { found = kept_there; takes_bytes = t.takes; there = there }) says;
+      }
+
 -- what holds of the section of a table holds of the one that is there, at the address of an end
 at_address : (facts : PieceFacts) (t : TableSection) (P : SectionOf LaidItem → ℕ → Type 0) (end : SectionEnd) → P (kept facts t) (at_end facts t end)
     → IsSomeAnd (slice_get t.laid t.number) (λ section. P section (end_address t.laid t.number end))
@@ -183,3 +207,8 @@ addresses_are_held facts table map pos end at known stays stands starts low has 
     let t : TableSection = table_section facts table in
     at_address facts t (λ section offset. HoldsAddress t.symbols t.laid t.number section offset at) end
     (address_holds facts t map pos end at known stays stands starts low has)
+
+pub forms_are_held : PieceFacts → FormsAreHeld
+forms_are_held facts table size pos end form stands at =
+    let t : TableSection = table_section facts table in
+    at_address facts t (λ section offset. HoldsForm t.symbols t.laid t.number section offset size form) end (form_holds facts t size pos end form at)

@@ -20,7 +20,7 @@ use Rattle.table_pieces.specs.Pieces.{Piece, Tables, pieces_put}
 use Rattle.table_pieces.specs.StandingPlaces.{HoldsItems, MarkStands}
 use Rattle.piece_laws.specs.HeldDistances.{mark_section, NamesStay}
 use Rattle.piece_laws.specs.LaidTables.{place_address, end_address, LaidTable, StandsTo, EndsStand}
-use Rattle.piece_laws.specs.Pointers.{PointersPoint, AddressesAreHeld}
+use Rattle.piece_laws.specs.Pointers.{PointersPoint, AddressesAreHeld, FormsAreHeld}
 
 module _ (sections : List LooseSection) (laid : LaidSections) (number : ℕ) where
   -- both marks stand in one section
@@ -47,6 +47,7 @@ module _ (sections : List LooseSection) (laid : LaidSections) (number : ℕ) whe
   Fits (put.number distance) = IsNear distance
   Fits (put.pointer place) = Unit {0}
   Fits (put.address place) = Unit {0}
+  Fits (put.field size form) = Unit {0}
   Fits (put.advance distance) = IsForward distance
   Fits (put.leb128 distance) = IsForward distance
   Fits (put.padding log) = Unit {0}
@@ -76,3 +77,4 @@ pub record TablesAreInFile : Type 0 where
   pub pieces : PiecesAreInFile
   pub pointers : PointersPoint
   pub addresses : AddressesAreHeld
+  pub forms : FormsAreHeld

@@ -21,8 +21,8 @@ pub fn places_rise()
 /// Pieces that are put into a section stand in the file of its layout one behind the other, each as it is meant there: a
 /// distance leads from its one mark to the other, an advance or a number in groups of 7 bits has as many bytes as hold it, and
 /// an address is 0. The ends that are counted over them are where they end. The field of a pointer counts from itself to its
-/// place, and has one relocation where that is in another section; that of an address has one that names its place (psABI for
-/// AMD64, section 4.4).
+/// place, and has one relocation where that is in another section; that of an address has one that names its place; and that
+/// of a form holds its value, or has the one relocation that says it (psABI for AMD64, section 4.4).
 pub fn tables_are_in_file()
     ensures { TablesAreInFile }
 {

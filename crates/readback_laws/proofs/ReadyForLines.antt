@@ -28,7 +28,7 @@ use Rattle.readback_laws.proofs.SettledObjects.{AreSettled}
 -- what is known of the labels of frame tables
 pub record FrameLabels : Type 0 where
   pub known : (before after : SymbolMap) → PlacesAreLabels before → GetsLabels before after → PlacesAreLabels after
-  pub gets : (section : ℕ) (pos : Pos) (frames : List Frame) (tables : Tables) → GetsLabels tables.symbols (table_put section pos frames tables).symbols
+  pub gets : (section : ℕ) (first : Frame) (frames : List Frame) (tables : Tables) → GetsLabels tables.symbols (table_put section first frames tables).symbols
 
 -- the symbols that a table is put to are those that were placed
 first_symbols : (frame : Frame) (frames : List Frame) (tables after : Tables) (put : IsPlaced frame frames tables after) → put.first.symbols ≡ tables.symbols
@@ -46,8 +46,8 @@ named_framed labels table [] tables after within is named =
 named_framed labels table (frame ∷ frames) tables after within is named =
     let put = table.put frame frames tables after within is in
     subst (λ (t : Tables). PlacesAreLabels t.symbols) (sym put.put)
-    (labels.known put.first.symbols (table_put put.section frame.pos (frame ∷ frames) put.first).symbols
-    (subst PlacesAreLabels (sym (first_symbols frame frames tables after put)) named) (labels.gets put.section frame.pos (frame ∷ frames) put.first))
+    (labels.known put.first.symbols (table_put put.section frame (frame ∷ frames) put.first).symbols
+    (subst PlacesAreLabels (sym (first_symbols frame frames tables after put)) named) (labels.gets put.section frame (frame ∷ frames) put.first))
 
 module _ (labels : FrameLabels) (settled : AreSettled) (table : TableFacts) (lined : LineFacts) (placing : PlaceFacts) (facts : JumpFacts) (no_warn : Bool)
     (worked_out : Option (List Frame)) (handed : List TokenStatement) (object : List ℕ) (from : Origin no_warn worked_out handed object)

@@ -15,15 +15,13 @@ use Rattle.item_contents.specs.declared.contents.Content.TheVariants.{Align, Run
 use Rattle.item_contents.specs.declared.kinds.Growth.TheVariants as growth
 use Rattle.item_contents.specs.ItemParts.{zeros_up_to}
 use Rattle.cfi_directives.specs.declared.frames.Frame.{Frame}
-use Rattle.cfi_rows.specs.Entries.{common_bytes}
-use Rattle.table_pieces.specs.declared.ends.SectionEnd.{SectionEnd}
-use Rattle.table_pieces.specs.Ends.{behind_pieces, end_place, end_of}
 use Rattle.eh_frame.specs.Entries.{entry_pieces}
 use Rattle.eh_frame.specs.FoundTables.{IsPlaced}
 use Rattle.table_pieces.specs.Marks.{distance_form, address_form}
 use Rattle.table_pieces.specs.Pieces as put
 use Rattle.table_pieces.specs.Pieces.{Piece, plain, number, pointer, advance, leb128, padding, from_here, Tables, piece_put, pieces_put}
-use Rattle.eh_frame.specs.Placing.{padded_log, entries_put, new_table, table_put}
+use Rattle.eh_frame.specs.Commons.{common_pieces}
+use Rattle.eh_frame.specs.Placing.{Putting, padded_log, place_of, common_put, common_place, frame_put, entries_put, common_begun, new_table, table_put}
 use Rattle.line_directives.specs.Taking.{LineTable}
 use Rattle.line_table.specs.FoundTables as line_found
 use Rattle.line_table.specs.Placing as line_table
@@ -84,6 +82,7 @@ module _ (last section : ℕ) where
   piece_fields pos (put.address place) tables own =
       changed_fields (with_field pos section Eight data_role (address_form tables.symbols place)) (number_fields Eight pos (address_form tables.symbols place))
       tables.sections own
+  piece_fields pos (put.field size form) tables own = changed_fields (with_field pos section size data_role form) (number_fields size pos form) tables.sections own
   piece_fields pos (advance distance) tables own =
       changed_fields (with_growing pos section growth.Advance None (distance_form tables.symbols distance)) (advance_fields pos (distance_form tables.symbols distance))
       tables.sections own
@@ -97,17 +96,21 @@ module _ (last section : ℕ) where
   pieces_fields pos [] tables own = own
   pieces_fields pos (piece ∷ pieces) tables own = pieces_fields pos pieces (piece_put section pos piece tables) (piece_fields pos piece tables own)
 
-  entries_fields : (common : SectionPlace) (end : SectionEnd) (frames : List Frame) (tables : Tables) → FieldsAreOwn last tables.sections
-      → FieldsAreOwn last (entries_put section common end frames tables).sections
-  entries_fields common end [] tables own = own
-  entries_fields common end (frame ∷ frames) tables own =
-      let pieces = entry_pieces section end common (padded_log frames) frame in
-      entries_fields common (behind_pieces pieces end) frames (pieces_put section frame.pos pieces tables) (pieces_fields frame.pos pieces tables own)
+  common_fields : (frame : Frame) (found : Option SectionPlace) (putting : Putting) → FieldsAreOwn last putting.tables.sections
+      → FieldsAreOwn last (common_put section frame found putting).tables.sections
+  common_fields frame (Some place) putting own = own
+  common_fields frame None putting own = pieces_fields frame.pos (common_pieces frame) putting.tables own
 
-  table_fields : (pos : Pos) (frames : List Frame) (tables : Tables) → FieldsAreOwn last tables.sections → FieldsAreOwn last (table_put section pos frames tables).sections
-  table_fields pos frames tables own =
-      entries_fields (end_place section (end_of section tables.sections)) (end_of section (piece_put section pos (plain common_bytes) tables).sections) frames
-      (piece_put section pos (plain common_bytes) tables) (piece_fields pos (plain common_bytes) tables own)
+  entries_fields : (frames : List Frame) (putting : Putting) → FieldsAreOwn last putting.tables.sections → FieldsAreOwn last (entries_put section frames putting).tables.sections
+  entries_fields [] putting own = own
+  entries_fields (frame ∷ frames) putting own =
+      let found = place_of frame putting.commons in
+      let one = common_put section frame found putting in
+      let pieces = entry_pieces section one.end (common_place section frame putting) (padded_log frames) frame in
+      entries_fields frames (frame_put section (padded_log frames) frame putting) (pieces_fields frame.pos pieces one.tables (common_fields frame found putting own))
+
+  table_fields : (first : Frame) (frames : List Frame) (tables : Tables) → FieldsAreOwn last tables.sections → FieldsAreOwn last (table_put section first frames tables).sections
+  table_fields first frames tables own = entries_fields frames (common_begun section first tables) (pieces_fields first.pos (common_pieces first) tables own)
 
 -- a new section without fields has none
 new_fields : (last : ℕ) (new : LooseSection) → new.fields ≡ [] → (sections : List LooseSection) → FieldsAreOwn last sections → FieldsAreOwn last (sections ++ new ∷ [])
@@ -121,7 +124,7 @@ new_fields last new none sections own = λ number section there. elim (last_or_b
 pub placed_fields : (last : ℕ) (frame : Frame) (frames : List Frame) (tables after : Tables) → IsPlaced frame frames tables after → FieldsAreOwn last tables.sections
     → FieldsAreOwn last after.sections
 placed_fields last frame frames tables after is own =
-    subst (λ (t : Tables). FieldsAreOwn last t.sections) (sym is.put) (table_fields last is.section frame.pos (frame ∷ frames) is.first first)
+    subst (λ (t : Tables). FieldsAreOwn last t.sections) (sym is.put) (table_fields last is.section frame (frame ∷ frames) is.first first)
   where
     first : FieldsAreOwn last is.first.sections
     first = elim is.begins [

@@ -7,7 +7,9 @@ use Rattle.asm_relax.specs.RangeChecks.{whole_size}
 use Rattle.asm_relax.specs.Settling.{LaidItem, LaidSections}
 use Rattle.cfi_directives.specs.declared.frames.Frame.{Frame}
 use Rattle.cfi_rows.specs.declared.rows.CfaRow.{CfaRow}
-use Rattle.cfi_rows.specs.Entries.{common_bytes, row_of}
+use Rattle.cfi_rows.specs.Commons.{common_entry, common_length}
+use Rattle.cfi_rows.specs.Entries.{row_of}
+use Rattle.eh_frame.specs.Commons.{form_of}
 use Rattle.elf_file.specs.Sections.{no_bits}
 use Rattle.elf_object.specs.Contents.{section_relocations}
 use Rattle.elf_object.specs.Places.{section_offset}
@@ -25,25 +27,25 @@ module _ (object : List ℕ) (map : SymbolMap) (laid : LaidSections) where
         (section_relocations map laid number section) code
 
   -- of entries that fill a section from this offset on, the offset of the one of this number
-  abbrev pub offset_of : (table common offset : ℕ) → (frames : List Frame)
-      → EntriesFill object map laid table common offset frames → (number : ℕ) → ℕ
-  offset_of table common offset [] fill number = offset
-  offset_of table common offset (frame ∷ frames) fill zero = offset
-  offset_of table common offset (frame ∷ frames) fill (suc number) =
-      offset_of table common (offset + length fill.0.entry) frames fill.1 number
+  abbrev pub offset_of : (table offset : ℕ) → (frames : List Frame)
+      → EntriesFill object map laid table offset frames → (number : ℕ) → ℕ
+  offset_of table offset [] fill number = offset
+  offset_of table offset (frame ∷ frames) fill zero = offset + fill.0.count
+  offset_of table offset (frame ∷ frames) fill (suc number) =
+      offset_of table (offset + fill.0.count + length fill.0.read.entry) frames fill.1 number
 
   -- a frame has the entry of this number in the frame table of the object, which has one for each
-  -- of these frames: its FDE. It stands at this offset of `.eh_frame`, behind the CIE and the
+  -- of these frames: its FDE. It stands at this offset of `.eh_frame`, behind the first CIE and the
   -- entries before it, and begins and ends where the frame does
   pub record HasEntry {frames : List Frame} (table : TableReads object map laid frames)
       (number : ℕ) (frame : Frame) : Type 0 where
     pub offset : ℕ
-    pub numbered : offset ≡ offset_of table.number table.common
-        (table.common + length common_bytes) frames table.entries number
-    pub reads : EntryReads object map laid table.number table.common offset frame
+    pub numbered : offset ≡ offset_of table.number
+        (table.common + (4 + common_length (form_of table.first))) frames table.entries number
+    pub reads : EntryReads object map laid table.number offset frame
 
   -- the row that the bytes of the CIE and of this FDE give so far from where the FDE begins, if
   -- they give one
   abbrev pub row_by : {frames : List Frame} → {table : TableReads object map laid frames}
       → {number : ℕ} → {frame : Frame} → HasEntry table number frame → ℕ → Option CfaRow
-  row_by has at = row_of common_bytes has.reads.entry at
+  row_by {frame = frame} has at = row_of (common_entry (form_of frame) has.reads.cie.pointer) has.reads.entry at

@@ -109,11 +109,11 @@ pub frame_answered : (symbols : SymbolMap) (sections : List LooseSection) (funct
     → option_map (λ (one : Recorded CodeItem). one.section) (slice_get functions number) ≡ Some section → fields ≡ fields_of sections extent.section
     → AnswersTable items (nodes_of symbols section fields items) (Ok ops)
     → IfSome (slice_get functions number)
-    (λ f. AnswersFrame symbols sections f (Ok (record { pos = extent.pos; section = extent.section; start = extent.start; stop = extent.stop; ops = ops })))
+    (λ f. AnswersFrame symbols sections f (Ok (record { pos = extent.pos; section = extent.section; start = extent.start; stop = extent.stop; personality = None; lsda = None; ops = ops })))
 frame_answered symbols sections functions number extent items section fields ops extent_is items_is section_is fields_is table = by (slice_get functions number) refl
   where
     Answer : Recorded CodeItem → Type 0
-    Answer f = AnswersFrame symbols sections f (Ok (record { pos = extent.pos; section = extent.section; start = extent.start; stop = extent.stop; ops = ops }))
+    Answer f = AnswersFrame symbols sections f (Ok (record { pos = extent.pos; section = extent.section; start = extent.start; stop = extent.stop; personality = None; lsda = None; ops = ops }))
 
     by : (found : Option (Recorded CodeItem)) → slice_get functions number ≡ found → IfSome found Answer
     by None there = tt
@@ -122,7 +122,7 @@ frame_answered symbols sections functions number extent items section fields ops
         record {
           table = subst (λ (held : List CodeItem). IsTable held (nodes_in symbols sections f) ops) parts.items_is
               (subst (λ (nodes : List Node). IsTable items nodes ops) (nodes_are symbols sections f extent items section fields parts) table);
-          made = ap (λ (one : Extent). record { pos = one.pos; section = one.section; start = one.start; stop = one.stop; ops = ops }) parts.extent_is;
+          made = ap (λ (one : Extent). record { pos = one.pos; section = one.section; start = one.start; stop = one.stop; personality = None; lsda = None; ops = ops }) parts.extent_is;
         }
 
 -- or its fault

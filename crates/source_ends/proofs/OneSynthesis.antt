@@ -143,10 +143,10 @@ module _ (facts : SynthesisFacts) (symbols : SymbolMap) (sections : List LooseSe
     where
       frame_parts : (one other : Recorded CodeItem) (ops : List PlacedOp) → Alike one other → frame_with one ops ≡ frame_with other ops
       frame_parts one other ops alike =
-          ap (λ x. record { pos = x; section = one.section; start = one.start; stop = one.stop; ops = ops }) alike.pos
-          ∙ (ap (λ x. record { pos = other.pos; section = x; start = one.start; stop = one.stop; ops = ops }) alike.section
-          ∙ (ap (λ x. record { pos = other.pos; section = other.section; start = x; stop = one.stop; ops = ops }) alike.start
-          ∙ ap (λ x. record { pos = other.pos; section = other.section; start = other.start; stop = x; ops = ops }) alike.stop))
+          ap (λ x. record { pos = x; section = one.section; start = one.start; stop = one.stop; personality = None; lsda = None; ops = ops }) alike.pos
+          ∙ (ap (λ x. record { pos = other.pos; section = x; start = one.start; stop = one.stop; personality = None; lsda = None; ops = ops }) alike.section
+          ∙ (ap (λ x. record { pos = other.pos; section = other.section; start = x; stop = one.stop; personality = None; lsda = None; ops = ops }) alike.start
+          ∙ ap (λ x. record { pos = other.pos; section = other.section; start = other.start; stop = x; personality = None; lsda = None; ops = ops }) alike.stop))
 
   faults_alike : (one other : Recorded CodeItem) (at again : ItemFaultAt) → Alike one other → IsRefused one.items (nodes_in symbols sections one) at
       → IsRefused other.items (nodes_in symbols sections other) again → at ≡ again

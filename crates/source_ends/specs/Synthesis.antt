@@ -42,7 +42,7 @@ placed_ops items ops = map (placed_op items) ops
 
 -- the frame of a function with these instructions
 abbrev pub frame_with : Recorded CodeItem → List PlacedOp → Frame
-frame_with f ops = record { pos = f.pos; section = f.section; start = f.start; stop = f.stop; ops = ops }
+frame_with f ops = record { pos = f.pos; section = f.section; start = f.start; stop = f.stop; personality = None; lsda = None; ops = ops }
 
 -- the fields of the section of this number
 abbrev pub fields_of : List LooseSection → ℕ → List Field

@@ -149,6 +149,8 @@ fn frame_of(
         section: extent.section,
         start: extent.start,
         stop: extent.stop,
+        personality: None,
+        lsda: None,
         ops,
     })
 }

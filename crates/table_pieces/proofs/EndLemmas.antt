@@ -2,11 +2,12 @@
 use Rattle.std.proofs.Common.{◌≡◌, ℕ, ◌+◌, Bool, true, false, List, [], ◌∷◌, ◌++◌, length, Option, None, Some, if◌then◌else◌, replicate, refl, sym, ap, subst, ◌∙◌, arith, length-append}
 use Rattle.std.specs.Prelude.{IsSomeAnd}
 use Rattle.std.specs.List.{slice_get}
+use Rattle.std.proofs.lemmas.List.{length-replicate}
 use Rattle.asm_base.specs.declared.positions.Pos.{Pos}
 use Rattle.asm_expr.specs.Forms.{Form}
 use Rattle.asm_frags.specs.declared.fields.FieldSize.TheVariants.{Four, Eight}
 use Rattle.asm_frags.specs.Addresses.{changed_there, changed_at}
-use Rattle.asm_frags.specs.Fields.{data_role}
+use Rattle.asm_frags.specs.Fields.{width, data_role}
 use Rattle.asm_frags.specs.Writing.{LooseItem, LooseSection, ends_in_run, new_item, item_behind, with_item, with_run, with_bytes, with_field, with_growing, takes_zeros_alone}
 use Rattle.item_contents.specs.declared.contents.Content.TheVariants.{Run, Align, Growing}
 use Rattle.item_contents.specs.declared.kinds.Growth.{Growth}
@@ -89,6 +90,9 @@ piece_reaches section pos (pointer place) tables end =
 piece_reaches section pos (put.address place) tables end =
     changed_reaches section tables.sections (with_field pos section Eight data_role (address_form tables.symbols place)) end (behind_plain 8 end)
     (λ held has. run_reaches pos held (with_field pos section Eight data_role (address_form tables.symbols place) held) (replicate 8 0) 8 end has refl refl refl)
+piece_reaches section pos (put.field size form) tables end =
+    changed_reaches section tables.sections (with_field pos section size data_role form) end (behind_plain (width size) end)
+    (λ held has. run_reaches pos held (with_field pos section size data_role form held) (replicate (width size) 0) (width size) end has (length-replicate (width size) 0) refl refl)
 piece_reaches section pos (advance distance) tables end =
     changed_reaches section tables.sections (with_growing pos section growth.Advance None (distance_form tables.symbols distance)) end (behind_item end)
     (λ held has. grown_reaches pos section growth.Advance (distance_form tables.symbols distance) held end has)

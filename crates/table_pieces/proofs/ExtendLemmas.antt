@@ -271,6 +271,8 @@ piece_extends section pos (pointer place) tables =
 piece_extends section pos (put.address place) tables =
     changed_extends (with_field pos section Eight data_role (address_form tables.symbols place)) (field_extends pos section Eight data_role (address_form tables.symbols place))
     section tables.sections
+piece_extends section pos (put.field size form) tables =
+    changed_extends (with_field pos section size data_role form) (field_extends pos section size data_role form) section tables.sections
 piece_extends section pos (advance distance) tables =
     changed_extends (with_growing pos section growth.Advance None (distance_form tables.symbols distance))
     (growing_extends pos section growth.Advance (distance_form tables.symbols distance)) section tables.sections

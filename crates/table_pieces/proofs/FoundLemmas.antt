@@ -270,6 +270,9 @@ piece_puts law section pos (piece.address place) tables end =
     changed_puts tables.symbols section pos (piece.address place) tables.sections end (with_field pos section Eight data_role (address_form tables.symbols place))
     (λ held ready. let puts = field_puts law section pos Eight (address_form tables.symbols place) end held ready in
     record { ready = puts.0; found = puts.1 })
+piece_puts law section pos (piece.field size form) tables end =
+    changed_puts tables.symbols section pos (piece.field size form) tables.sections end (with_field pos section size data_role form)
+    (λ held ready. let puts = field_puts law section pos size form end held ready in record { ready = puts.0; found = puts.1 })
 piece_puts law section pos (piece.advance distance) tables end =
     changed_puts tables.symbols section pos (piece.advance distance) tables.sections end (with_growing pos section growth.Advance None (distance_form tables.symbols distance))
     (λ held ready. let puts = grown_puts law section pos growth.Advance (distance_form tables.symbols distance) end held ready in record { ready = puts.0; found = puts.1 })

@@ -75,6 +75,7 @@ piece_gets section pos (piece.plain bytes) tables = label_same tables.symbols
 piece_gets section pos (piece.number distance) tables = marks_get tables.symbols distance
 piece_gets section pos (piece.pointer place) tables = marks_get tables.symbols (from_here place)
 piece_gets section pos (piece.address place) tables = label_gets tables.symbols place
+piece_gets section pos (piece.field size form) tables = label_same tables.symbols
 piece_gets section pos (piece.advance distance) tables = marks_get tables.symbols distance
 piece_gets section pos (piece.leb128 distance) tables = marks_get tables.symbols distance
 piece_gets section pos (piece.padding log) tables = label_same tables.symbols

@@ -1,5 +1,5 @@
 -- The places of the labels that pieces bring stand in their sections.
-use Rattle.std.proofs.Common.{◌≡◌, ℕ, List, [], ◌∷◌, ◌++◌, length, Option, None, Some, refl, sym, ap, ◌∙◌, append-nil, append_assoc}
+use Rattle.std.proofs.Common.{ℕ, List, [], ◌∷◌, ◌++◌, length, Option, None, Some, refl, sym, ap, ◌∙◌, append-nil, append_assoc}
 use Rattle.std.proofs.lemmas.List.Elements.{All-nil, All-cons, All-append}
 use Rattle.asm_base.specs.declared.places.SectionPlace.{SectionPlace}
 use Rattle.asm_base.specs.declared.positions.Pos.{Pos}
@@ -51,6 +51,7 @@ module _ (sections : List LooseSection) where
   piece_stands section pos (piece.number distance) tables stands = marks_stand tables.symbols distance stands.0 stands.1
   piece_stands section pos (piece.pointer place) tables stands = marks_stand tables.symbols (from_here place) stands tt
   piece_stands section pos (piece.address place) tables stands = label_stands tables.symbols place stands
+  piece_stands section pos (piece.field size form) tables stands = standing_same tables.symbols
   piece_stands section pos (piece.advance distance) tables stands = marks_stand tables.symbols distance stands.0 stands.1
   piece_stands section pos (piece.leb128 distance) tables stands = marks_stand tables.symbols distance stands.0 stands.1
   piece_stands section pos (piece.padding log) tables stands = standing_same tables.symbols

@@ -1,6 +1,7 @@
 -- How many labels and plain bytes pieces bring.
 use Rattle.std.specs.Prelude.{◌≡◌, ℕ, ◌+◌, ◌≤◌, List, [], ◌∷◌, length}
 use Rattle.asm_base.specs.declared.positions.Pos.{Pos}
+use Rattle.asm_frags.specs.Fields.{width}
 use Rattle.table_pieces.specs.declared.ends.SectionEnd.{SectionEnd}
 use Rattle.table_pieces.specs.Ends.{behind_pieces}
 use Rattle.table_pieces.specs.Pieces as put
@@ -12,6 +13,7 @@ labels_in (put.plain bytes) = 0
 labels_in (put.number distance) = 2
 labels_in (put.pointer place) = 2
 labels_in (put.address place) = 1
+labels_in (put.field size form) = 0
 labels_in (put.advance distance) = 2
 labels_in (put.leb128 distance) = 2
 labels_in (put.padding log) = 0
@@ -22,6 +24,7 @@ bytes_in (put.plain bytes) = length bytes
 bytes_in (put.number distance) = 4
 bytes_in (put.pointer place) = 4
 bytes_in (put.address place) = 8
+bytes_in (put.field size form) = width size
 bytes_in (put.advance distance) = 0
 bytes_in (put.leb128 distance) = 0
 bytes_in (put.padding log) = 0

@@ -2,9 +2,10 @@
 use Rattle.std.specs.Prelude.{ℕ, ◌+◌, true, false, List, [], ◌∷◌, length, slice_get, if◌then◌else◌}
 use Rattle.std.specs.Option.{option_map_or}
 use Rattle.asm_base.specs.declared.places.SectionPlace.{SectionPlace}
+use Rattle.asm_frags.specs.Fields.{width}
 use Rattle.asm_frags.specs.Writing.{LooseSection}
 use Rattle.table_pieces.specs.declared.ends.SectionEnd.{SectionEnd}
-use Rattle.table_pieces.specs.Pieces.{Piece, plain, number, pointer, address, advance, leb128, padding}
+use Rattle.table_pieces.specs.Pieces.{Piece, plain, number, pointer, address, field, advance, leb128, padding}
 
 -- the end behind so many plain bytes more, which go on with a run that is last
 abbrev pub behind_plain : ℕ → SectionEnd → SectionEnd
@@ -24,6 +25,7 @@ behind_piece (plain bytes) end = behind_plain (length bytes) end
 behind_piece (number distance) end = behind_plain 4 end
 behind_piece (pointer place) end = behind_plain 4 end
 behind_piece (address place) end = behind_plain 8 end
+behind_piece (field size form) end = behind_plain (width size) end
 behind_piece (advance distance) end = behind_item end
 behind_piece (leb128 distance) end = behind_item end
 behind_piece (padding log) end = behind_item end

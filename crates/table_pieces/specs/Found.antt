@@ -111,6 +111,7 @@ PieceStands held section pos map end (put.plain bytes) =
 PieceStands held section pos map end (put.number distance) = NumberAt held section pos end (distance_form map distance)
 PieceStands held section pos map end (put.pointer place) = NumberAt held section pos end (distance_form map (from_here place))
 PieceStands held section pos map end (put.address place) = FieldBehind Eight held section pos end (address_form map place)
+PieceStands held section pos map end (put.field size form) = FieldBehind size held section pos end form
 PieceStands held section pos map end (put.advance distance) = GrownAt growth.Advance held section pos end (distance_form map distance)
 PieceStands held section pos map end (put.leb128 distance) = GrownAt (growth.Leb128 false) held section pos end (distance_form map distance)
 PieceStands held section pos map end (put.padding log) = ItemAt held end.items (item_at pos end (Align (zeros_up_to log)))

@@ -25,6 +25,7 @@ piece_bytes (put.plain bytes) made = bytes
 piece_bytes (put.number distance) made = low_bytes Four made.value
 piece_bytes (put.pointer place) made = low_bytes Four made.value
 piece_bytes (put.address place) made = low_bytes Eight made.value
+piece_bytes (put.field size form) made = low_bytes size made.value
 piece_bytes (put.advance distance) made = grown_bytes growth.Advance made.size made.value
 piece_bytes (put.leb128 distance) made = grown_bytes (growth.Leb128 false) made.size made.value
 piece_bytes (put.padding log) made = padding_bytes (Byte 0) made.size
@@ -61,12 +62,13 @@ module _ (address : SectionPlace → ℕ) where
     pub size : made.size ≡ level + 1
     pub holds : made.value < 2 ^ (7 * (level + 1))
 
-  -- what a piece may be made at this address: a pointer and an address are the linker's, an address is 0 before, and a padding may have any size
+  -- what a piece may be made at this address: a pointer and an address are the linker's, an address is 0 before, what a form comes to may be any number, and a padding may have any size
   abbrev pub IsMade : ℕ → Piece → Made → Type 0
   IsMade here (put.plain bytes) made = Unit {0}
   IsMade here (put.number distance) made = IsSpan here distance made.value
   IsMade here (put.pointer place) made = made.value < 2 ^ 32
   IsMade here (put.address place) made = made.value ≡ 0
+  IsMade here (put.field size form) made = Unit {0}
   IsMade here (put.advance distance) made = IsAdvance here distance made
   IsMade here (put.leb128 distance) made = IsLeb128 here distance made
   IsMade here (put.padding log) made = Unit {0}

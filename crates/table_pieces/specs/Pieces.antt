@@ -1,6 +1,8 @@
 -- The pieces of which a table is made, and how each is put into the section.
 use Rattle.std.specs.Prelude.{◌≡◌, ℕ, ◌<◌, false, List, [], ◌∷◌, length, None, IsSomeAnd, slice_get}
 use Rattle.asm_base.specs.declared.positions.Pos.{Pos}
+use Rattle.asm_expr.specs.Forms.{Form}
+use Rattle.asm_frags.specs.declared.fields.FieldSize.{FieldSize}
 use Rattle.asm_frags.specs.declared.fields.FieldSize.TheVariants.{Four, Eight}
 use Rattle.asm_frags.specs.Addresses.{changed_at}
 use Rattle.asm_frags.specs.Fields.{data_role}
@@ -16,12 +18,13 @@ use Rattle.table_pieces.specs.declared.marks.Mark.TheVariants.{Here, At}
 use Rattle.table_pieces.specs.Marks.{with_label, with_marks, distance_form, address_form}
 
 -- plain bytes; a distance in four bytes; where a place stands, from the four bytes themselves, which the linker fills in; the address of a place in eight
--- bytes, which the linker fills in; the advance of a frame table by a distance; a distance in groups of 7 bits; zeros up to the next multiple of 2 ^ log
+-- bytes, which the linker fills in; a form in a field of this size; the advance of a frame table by a distance; a distance in groups of 7 bits; zeros up to the next multiple of 2 ^ log
 pub data Piece : Type 0 where
   plain : List ℕ → Piece
   number : Distance → Piece
   pointer : SectionPlace → Piece
   address : SectionPlace → Piece
+  field : FieldSize → Form → Piece
   advance : Distance → Piece
   leb128 : Distance → Piece
   padding : ℕ → Piece
@@ -51,6 +54,11 @@ address_put section pos place tables =
     tables_of (with_label tables.symbols place)
     (changed_at (with_field pos section Eight data_role (address_form tables.symbols place)) tables.sections section)
 
+-- a form in a field of this size, last in the section of this number
+abbrev pub field_put : ℕ → Pos → FieldSize → Form → Tables → Tables
+field_put section pos size form tables =
+    tables_of tables.symbols (changed_at (with_field pos section size data_role form) tables.sections section)
+
 -- a distance in an item that grows with it, last in the section of this number
 abbrev pub grown_put : Growth → ℕ → Pos → Distance → Tables → Tables
 grown_put kind section pos distance tables =
@@ -63,6 +71,7 @@ piece_put section pos (plain bytes) tables = tables_of tables.symbols (changed_a
 piece_put section pos (number distance) tables = number_put section pos distance tables
 piece_put section pos (pointer place) tables = number_put section pos (from_here place) tables
 piece_put section pos (address place) tables = address_put section pos place tables
+piece_put section pos (field size form) tables = field_put section pos size form tables
 piece_put section pos (advance distance) tables = grown_put growth.Advance section pos distance tables
 piece_put section pos (leb128 distance) tables = grown_put (growth.Leb128 false) section pos distance tables
 piece_put section pos (padding log) tables =

@@ -38,6 +38,7 @@ PlacesStand sections (put.plain bytes) = Unit {0}
 PlacesStand sections (put.number distance) = MarkStands sections distance.to × MarkStands sections distance.from
 PlacesStand sections (put.pointer place) = HoldsItems sections place.section place.place.item
 PlacesStand sections (put.address place) = HoldsItems sections place.section place.place.item
+PlacesStand sections (put.field size form) = Unit {0}
 PlacesStand sections (put.advance distance) = MarkStands sections distance.to × MarkStands sections distance.from
 PlacesStand sections (put.leb128 distance) = MarkStands sections distance.to × MarkStands sections distance.from
 PlacesStand sections (put.padding log) = Unit {0}

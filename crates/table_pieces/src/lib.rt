@@ -13,5 +13,6 @@ pub use laws::{
 };
 pub use marks::{Distance, Mark};
 pub use putting::{
-    Table, put_address, put_advance, put_leb128, put_number, put_padding, put_plain, put_pointer,
+    Table, put_address, put_advance, put_field, put_leb128, put_number, put_padding, put_plain,
+    put_pointer,
 };

@@ -6,6 +6,7 @@ ghost use Rattle.table_pieces.specs.Pieces as spec;
 
 use crate::marks::{Distance, Mark, address_form, distance_form};
 use asm_base::{Pos, SectionPlace};
+use asm_expr::Linear;
 use asm_frags::{FieldRole, FieldSize, Frag, FragFault, Sections};
 use asm_symbols::Symbols;
 use item_contents::{Align, Content, Growth};
@@ -101,6 +102,24 @@ pub fn put_address(
         FieldRole::data(),
         form,
     )
+}
+
+/// Puts a form in a field of this size.
+#[tactic(auto, using(crate::proofs::PutLemmas::field_is_put, crate::proofs::PutLemmas::field_is_taken, crate::proofs::PutLemmas::field_wants))]
+pub fn put_field(
+    symbols: &Symbols,
+    sections: &mut Sections,
+    table: Table,
+    size: FieldSize,
+    form: Linear,
+) -> Result<(), FragFault>
+    requires { spec.Takes table.section sections.old }
+    ensures ok { OnOk result (spec.tables_of symbols.now sections.new
+        ≡ spec.piece_put table.section table.pos (spec.field size form) (spec.tables_of symbols.now sections.old)) }
+    ensures takes { OnOk result (spec.Takes table.section sections.new) }
+    ensures memory { IfErr result (λ fault. fault ≡ NoMemory) }
+{
+    sections.push_field(table.section, table.pos, size, FieldRole::data(), form)
 }
 
 /// Puts the advance of a frame table by a distance, in as few bytes as hold it (DWARF 5, section 6.4.2.1).

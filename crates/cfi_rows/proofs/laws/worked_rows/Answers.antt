@@ -1,5 +1,5 @@
 -- Each clause is a record that computes.
-use Rattle.cfi_rows.proofs.WorkedEntries.{differences, frame_rows, other_rows, written_bytes}
+use Rattle.cfi_rows.proofs.WorkedEntries.{common_entries, differences, frame_rows, other_rows, written_bytes}
 use Rattle.cfi_rows.proofs.laws.worked_rows.Goals as goal
 
 pub returns-clause-framed : goal.returns-clause-framed
@@ -13,3 +13,6 @@ returns-clause-bytes c = written_bytes
 
 pub returns-clause-differences : goal.returns-clause-differences
 returns-clause-differences c = differences
+
+pub returns-clause-commons : goal.returns-clause-commons
+returns-clause-commons c = common_entries

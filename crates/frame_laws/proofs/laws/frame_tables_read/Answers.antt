@@ -1,5 +1,4 @@
 -- What the lower laws say is what is known of all tables.
-use Rattle.cfi_rows.specs.Entries.{common_bytes}
 use Rattle.frame_laws.proofs.Tables.{tables_read}
 use Rattle.frame_laws.proofs.laws.frame_tables_read.Goals as goal
 
@@ -11,6 +10,7 @@ returns c =
         places = c.places_rise.ensures;
         labels = record { known = c.places_are_named.ensures.known; stays = c.places_are_named.ensures.stays; pieces = c.places_are_named.ensures.pieces };
       };
+      commons = record { whole = λ form pointer sized. (c.common_entries_read.ensures.whole form pointer sized).0 };
       layouts = c.layouts_keep_sections.ensures;
       keeping = c.sections_keep_places.ensures;
       read = c.entries_read.ensures.read;
@@ -18,5 +18,5 @@ returns c =
       behind = c.tables_stand_behind.ensures.table;
       few = c.labels_are_few.ensures;
       reaches = c.ends_are_counted.ensures.pieces;
-      common_reaches = λ section pos tables. c.ends_are_counted.ensures.plain section pos common_bytes tables;
+      plain_reaches = c.ends_are_counted.ensures.plain;
     })

@@ -1,7 +1,7 @@
 -- What the lower laws say is what is known of all pieces.
 use Rattle.piece_laws.proofs.PiecesInFile.{are_in_file}
 use Rattle.piece_laws.proofs.PlacesAndEnds.{ends_stand}
-use Rattle.piece_laws.proofs.Pointing.{pointers_point, addresses_are_held}
+use Rattle.piece_laws.proofs.Pointing.{pointers_point, addresses_are_held, forms_are_held}
 use Rattle.piece_laws.proofs.TableSections.{PieceFacts}
 use Rattle.piece_laws.proofs.laws.tables_are_in_file.Goals as goal
 
@@ -35,4 +35,5 @@ returns c =
       pieces = are_in_file facts;
       pointers = pointers_point facts c.distances_have_two_terms.ensures;
       addresses = addresses_are_held facts;
+      forms = forms_are_held facts;
     }
