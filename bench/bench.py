@@ -21,12 +21,9 @@ from collections.abc import Callable, Iterator
 from dataclasses import dataclass
 
 sys.dont_write_bytecode = True
-from c_programs import c_program  # noqa: E402
+from compiled import ENVIRONMENT, code, cxx, debug, frames, functions, intel, programs  # noqa: E402
 
 BUILT = pathlib.Path(__file__).resolve().parent.parent / "build" / "as"
-PROGRAMS = pathlib.Path(__file__).resolve().parent / "programs.c"
-RANDOM_PROGRAMS = 20  # so many are compiled at most, some 100,000 lines
-ENVIRONMENT = {**os.environ, "LC_ALL": "C"}
 MIB = 1 << 20
 MEMORY = pathlib.Path("/dev/shm")  # where Linux keeps files in memory
 MANY = 1 << 40  # bytes, more than any source has
@@ -79,60 +76,6 @@ def data() -> Iterator[str]:
                f"\t.zero {1 + (number & 15)}\n", f'\t.string "text {number}"\n', f"\t.int -{number}\n")[form & 7]
         if number < 64:
             yield f"\t{next(sections)}\n"
-
-
-# What leaves out the tables for unwinding.
-NO_TABLES = "-fno-asynchronous-unwind-tables"
-
-
-def compiled(*words: str, text: str | None = None) -> str:
-    """What gcc makes of a source at -O2."""
-    command = ["gcc", "-O2", "-w", "-S", "-o", "-", *words]
-    return subprocess.run(command, input=text, capture_output=True, text=True, env=ENVIRONMENT, check=True).stdout
-
-
-def code() -> Iterator[str]:
-    """The instructions that gcc makes of `programs.c` at -O2, one a line, without the direct jumps. Their labels `.L1` are undefined symbols `L1`."""
-    lines = [line for line in compiled(NO_TABLES, str(PROGRAMS)).splitlines(keepends=True) if re.match(r"\t[a-z]", line) and not re.match(r"\tj\w+\t[^*]", line)]
-    return itertools.cycle(re.sub(r"(?<![\w.])\.L", "L", line) for line in lines)
-
-
-def cut_behind_names(made: str) -> list[str]:
-    """What gcc made, cut behind each symbol that it defines: joined by a text, these pieces have it behind all these symbols."""
-    names = {a or b for a, b in re.findall(r"^(?:([a-zA-Z_.][\w.]*):|\t\.(?:comm|set)\t([\w.]+))", made, re.MULTILINE)}
-    ends = [word.end() for word in re.finditer(r"[\w.]+", made) if word[0] in names]
-    return [made[begin:end] for begin, end in zip([0, *ends], [*ends, len(made)])]
-
-
-def named_anew(*words: str) -> Iterator[str]:
-    """What gcc makes of `programs.c`, over and over, each time with other names."""
-    pieces = cut_behind_names(compiled(*words, str(PROGRAMS)))
-    return (f"_{n}".join(pieces) for n in itertools.count())
-
-
-def functions() -> Iterator[str]:
-    """All that gcc makes of `programs.c` at -O2 but unwind tables, over and over, each time with other names."""
-    return named_anew(NO_TABLES)
-
-
-def frames() -> Iterator[str]:
-    """The same with the unwind tables."""
-    return named_anew()
-
-
-def intel() -> Iterator[str]:
-    """The same as `functions`, in Intel syntax."""
-    return named_anew(NO_TABLES, "-masm=intel")
-
-
-def programs() -> Iterator[str]:
-    """All that gcc makes of the random programs of `c_programs.py` at -O2, over and over, each time with other names. For other processors
-    gcc writes `rep bsf`, which is no instruction here."""
-    made: list[list[str]] = []
-    for n in itertools.count():
-        if n < RANDOM_PROGRAMS:
-            made.append(cut_behind_names(compiled("-mtune=nehalem", "-x", "c", "-", text=c_program(n))))
-        yield f"_{n}".join(made[n % RANDOM_PROGRAMS])
 
 
 def jumps() -> Iterator[str]:
@@ -305,14 +248,6 @@ def byte_lines() -> Iterator[str]:
         yield f"\t.byte {n * 37 % 256}\n"
 
 
-def debug() -> Iterator[str]:
-    """What gcc makes of `programs.c` at -O2 with debug information, over and over, each time with other names; its files get their numbers once."""
-    made = compiled("-g", "-gno-variable-location-views", str(PROGRAMS))
-    yield "".join(re.findall(r"^\t\.file \d[^\n]*\n", made, re.MULTILINE))
-    pieces = cut_behind_names(re.sub(r"^\t\.file \d[^\n]*\n", "", made, flags=re.MULTILINE))
-    yield from (f"_{n}".join(pieces) for n in itertools.count())
-
-
 def loc() -> Iterator[str]:
     """An instruction and a row of the line table in turn."""
     yield '\t.file 1 "loc.c"\n'
@@ -333,7 +268,7 @@ SIZES_IN_MIB = [1, 4, 16]
 SIZES_IN_LINES = [10_000, 100_000, 1_000_000]
 SOURCES_OF_LINES: list[tuple[Callable[[], Iterator[str]], list[int]]] = [
     (code, SIZES_IN_LINES), (functions, SIZES_IN_LINES), (frames, [100_000]), (intel, [100_000]), (programs, SIZES_IN_LINES), (data, SIZES_IN_LINES), (relocations, SIZES_IN_LINES),
-    (distances, [100_000]), (fills, [100_000]), (alignments, [100_000]), (jumps, [400_000]), (cascade, [10_000]), (leb128, [64_000]), (sections, [60_000]), (groups, [50_000]),
+    (distances, [100_000]), (fills, [100_000]), (alignments, [100_000]), (jumps, [400_000]), (cascade, [10_000]), (leb128, [64_000]), (sections, [60_000]), (groups, [50_000]), (cxx, [100_000, 1_000_000]),
     (chain, [20_000]), (chain_back, [20_000]), (late_chain, [16_000]), (sums, [10_000]), (calls, [20_000]), (macros, [40_000]), (copies, [4]), (zeros, [3]),
     (unlettered, [6]), (cancelling, [300_000]), (assigned, [100_000]), (unsigned_numbers, [300_000]), (signed_numbers, [300_000]), (byte_lines, [300_000]), (debug, [100_000, 1_000_000]), (loc, [1_000_000]),
     (empty, [1]), (space, [16]),
@@ -341,7 +276,7 @@ SOURCES_OF_LINES: list[tuple[Callable[[], Iterator[str]], list[int]]] = [
 # Texts of `--self-load` of so many functions.
 LOADS = [1_000, 10_000, 100_000]
 SYNTHESIS = "--scfi=experimental"
-SOURCES_OF_GCC = [code, functions, frames, intel, programs, debug]
+SOURCES_OF_GCC = [code, functions, frames, intel, programs, debug, cxx]
 
 
 @dataclass
@@ -465,13 +400,13 @@ def main() -> None:
     chosen = {name: case for name, case in cases.items() if options.only in name}
     if options.runs < 1 or not chosen or not BUILT.exists():
         parser.error(f"build/as is built first, N is at least 1, and WORD stands in one of: {', '.join(cases)}")
-    without_gcc = [name for name, case in chosen.items() if case.lines in SOURCES_OF_GCC and not shutil.which("gcc")]
+    without_gcc = [name for name, case in chosen.items() if case.lines in SOURCES_OF_GCC and not shutil.which("g++" if case.lines is cxx else "gcc")]
     for name in without_gcc:
         del chosen[name]
     gnu, version = find_gnu()
     print(f"{version}\nleast of {options.runs} processor times, memory in MiB\n", flush=True)
     ctypes.CDLL(None).prctl(36, 1, 0, 0, 0)  # PR_SET_CHILD_SUBREAPER: orphans become children of this process
-    rows, reasons = [], [f"{name} is left out: no gcc on PATH" for name in without_gcc]
+    rows, reasons = [], [f"{name} is left out: no compiler on PATH" for name in without_gcc]
     for name, case in chosen.items():
         # `space` writes 8 GiB.
         with tempfile.TemporaryDirectory(dir=None if case.lines is space else memory_folder()) as folder:

@@ -1,8 +1,8 @@
 #!/usr/bin/env bash
-# Builds zlib, bzip2, Lua, lz4 and expat with the assembler in a folder for `gcc -B`, and with the machine's own;
-# runs the tests of each package, and compares what they print. One line for a package and a set of flags; a refusal
-# is told with its messages, how often each came, and in how many files. Lua's package has no tests: a script of
-# ours is run.
+# Builds zlib, bzip2, Lua, lz4, expat and, in C++ with exceptions, pugixml with the assembler in a folder for `gcc -B`,
+# and with the machine's own; runs the tests of each package, and compares what they print. One line for a package and
+# a set of flags; a refusal is told with its messages, how often each came, and in how many files. Lua's package has no
+# tests: a script of ours is run.
 #
 #   checks/packages.sh build/gcc [PACKAGE..]
 #
@@ -13,7 +13,7 @@ set -u
 cd "$(dirname "$0")/.." || exit 1
 folder=$(realpath "${1:?a folder for gcc -B}")
 shift
-packages=${*:-zlib bzip2 lua5.4 lz4 expat}
+packages=${*:-zlib bzip2 lua5.4 lz4 expat pugixml}
 room=build/packages
 mkdir -p $room/apt/lists/partial $room/apt/archives/partial
 room=$(realpath $room)
@@ -96,6 +96,10 @@ test_expat() {
         make -s -k runtests xmlwf >log 2>&1 || { cat log; return 1; }
     printf '<a x="1"><b/>&lt;</a>' >t.xml && mkdir out &&
         tests/runtests && xmlwf/xmlwf t.xml && xmlwf/xmlwf -d out t.xml && cat out/t.xml
+}
+
+test_pugixml() {
+    make -s -k -j3 test BUILD=built CXX="${CC/gcc/g++}" CXXFLAGS="$FLAGS -w -std=c++11 -fno-gnu-unique"
 }
 
 # Builds and tests with the compiler; what was printed is in the file.

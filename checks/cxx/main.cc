@@ -1,9 +1,39 @@
-// Prints what both files of the program have of shapes.h.
+// Prints what the files of the program have of shapes.h, and what is caught of what they throw.
+#include "catching.h"
 #include "shapes.h"
 #include <cstdio>
 #include <thread>
 
 static Table<std::string, int> ages;
+
+static int caught(int (*function)(std::vector<int> &, int), int depth, std::vector<int> &left) {
+    Held held(left, depth);
+    try {
+        return function(left, depth);
+    } catch (const Refused &refused) {
+        std::printf("%s at %d; ", refused.what(), refused.at);
+        if (depth == 5) throw;
+        return -depth;
+    }
+}
+
+static void print_caught() {
+    for (int depth = 3; depth < 6; ++depth) {
+        for (auto function : {deep, through_c}) {
+            std::vector<int> left;
+            int answer = 0;
+            try {
+                answer = caught(function, depth, left);
+            } catch (const std::exception &again) {
+                std::printf("again: %s; ", again.what());
+            }
+            std::printf("%d, left", answer);
+            for (int number : left) std::printf(" %d", number);
+            std::printf("\n");
+        }
+    }
+    std::printf("%d\n", never_thrown(12));
+}
 
 int main() {
     Rectangle door(2, 5);
@@ -17,4 +47,5 @@ int main() {
     std::thread other([] { Square square(9); std::printf("%d there, %ld\n", here, square.area()); });
     other.join();
     std::printf("%d asked, one function: %s\n", counter<long>(), place_of_greatest() == others_greatest() ? "yes" : "no");
+    print_caught();
 }
