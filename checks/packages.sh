@@ -99,7 +99,7 @@ test_expat() {
 }
 
 test_pugixml() {
-    make -s -k -j3 test BUILD=built CXX="${CC/gcc/g++}" CXXFLAGS="$FLAGS -w -std=c++11 -fno-gnu-unique"
+    make -s -k -j3 test BUILD=built CXX="${CC/gcc/g++}" CXXFLAGS="$FLAGS -w -std=c++11 -fno-gnu-unique -maccumulate-outgoing-args"
 }
 
 # Builds and tests with the compiler; what was printed is in the file.
