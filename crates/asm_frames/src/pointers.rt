@@ -3,15 +3,14 @@
 ghost use Rattle.std.specs.Prelude.{◌≡◌, map};
 ghost use Rattle.asm_base.specs.Refusals.{Gives, Returns};
 ghost use Rattle.asm_base.specs.Tokens.{spelled};
-ghost use Rattle.asm_operands.specs.Expressions.{constant_in};
 ghost use Rattle.asm_values.specs.PlacedBy.{PlacesBy};
 ghost use Rattle.asm_frames.specs.Placing.{place_pointer};
 ghost use Rattle.asm_frames.specs.Pointers as spec;
 
 use crate::taking::take_line;
 use asm_base::{Pos, Token};
-use asm_expr::{Linear, value_of};
-use asm_operands::{Operands, PlaceCause, PlaceFault, UpToThree, up_to_three_trees};
+use asm_expr::Linear;
+use asm_operands::{Operands, PlaceCause, PlaceFault, UpToThree, constant_in, up_to_three_trees};
 use asm_uses::{View, up_to_three_forms, uses_place};
 use asm_values::Assembler;
 use cfi_directives::{CfiLine, Pointer, PointerKind};
@@ -44,24 +43,13 @@ fn pointer_of(number: u64, target: Option<Linear>) -> Result<Option<Pointer>, Pl
     }
 }
 
-/// The number that a form is, which has to be known.
-#[tactic(auto, unfolding(asm_operands::specs::Expressions::constant_in))]
-fn known_number(form: &Linear) -> Result<u64, PlaceFault>
-    ensures { Returns result (constant_in form.now) }
-{
-    match value_of(form) {
-        Ok(value) => Ok(value),
-        Err(cause) => Err(PlaceFault::Fault(PlaceCause::from(cause))),
-    }
-}
-
 /// The pointer that the forms of the operands say: the number of an encoding, which has to be known, and what the pointer
 /// leads to.
 fn pointer_in(forms: UpToThree<Linear>) -> Result<Option<Pointer>, PlaceFault>
     ensures { Returns result (spec.pointer_in forms) }
 {
     let UpToThree { first, second, .. } = forms;
-    let number = known_number(&first)?;
+    let number = constant_in(&first)?;
     pointer_of(number, second)
 }
 

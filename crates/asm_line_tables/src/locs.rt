@@ -16,23 +16,12 @@ use crate::taking::take_loc;
 use crate::values::{loc_line, with_numbers};
 use crate::words::LocNumbers;
 use asm_base::{Pos, Token};
-use asm_expr::{Linear, value_of};
-use asm_operands::{PlaceCause, PlaceFault};
+use asm_expr::Linear;
+use asm_operands::{PlaceFault, constant_in};
 use asm_uses::{Naming, forms};
 use asm_values::Assembler;
 use line_directives::LocLine;
 use std::alloc::Global;
-
-/// The value of a form, which has to be known.
-#[tactic(auto, unfolding(asm_operands::specs::Expressions::constant_in))]
-pub(crate) fn constant_in(form: &Linear) -> Result<u64, PlaceFault>
-    ensures { Returns result (constant_in form.now) }
-{
-    match value_of(form) {
-        Ok(value) => Ok(value),
-        Err(cause) => Err(PlaceFault::Fault(PlaceCause::from(cause))),
-    }
-}
 
 /// The values of forms, each of which has to be known.
 #[tactic(auto, unfolding(asm_operands::specs::Operands::each, asm_operands::specs::Operands::behind))]

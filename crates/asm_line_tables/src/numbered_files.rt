@@ -10,14 +10,13 @@ ghost use Rattle.asm_line_tables.specs.Constants.{place_file_number};
 ghost use Rattle.asm_line_tables.specs.Placing as spec;
 
 use crate::constants::front_number;
-use crate::locs::constant_in;
 use crate::parts::cut;
 use crate::reading::{FilePaths, paths_of};
 use crate::taking::take_file;
 use crate::values::below;
 use asm_base::{Pos, Token};
 use asm_expr::Expr;
-use asm_operands::{PlaceFault, expression_of};
+use asm_operands::{PlaceFault, constant_in, expression_of};
 use asm_uses::{Naming, form_in};
 use asm_values::Assembler;
 

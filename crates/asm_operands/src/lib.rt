@@ -29,5 +29,5 @@ pub use plain_names::{bare_name, lone_name, names, needed_name, needed_string};
 pub use strings::joined_strings;
 pub use sum_operands::{FewSums, LongSums, NamedSum, few_sums, long_sums, named_sum};
 pub use sums::{Addend, LongSum, Sum, Summand, long_sum_operand, minus, sum_operand};
-pub use trees::{NamedExpr, expression_of, expressions, named_tree};
+pub use trees::{NamedExpr, constant_in, expression_of, expressions, named_tree};
 pub use up_to_three::{UpToThree, constant_if, no_more, up_to_three_constants, up_to_three_trees};

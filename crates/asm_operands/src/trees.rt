@@ -3,7 +3,7 @@
 ghost use Rattle.std.specs.Prelude.{map, Ok};
 ghost use Rattle.asm_base.specs.Tokens.{spelled};
 ghost use Rattle.asm_expr.specs.Trees.{tree_of};
-ghost use Rattle.asm_base.specs.Refusals.{GivesBy};
+ghost use Rattle.asm_base.specs.Refusals.{GivesBy, Returns};
 ghost use Rattle.asm_operands.specs.Operands.{each};
 ghost use Rattle.asm_operands.specs.OperandParts.{operands_left};
 ghost use Rattle.asm_operands.specs.Expressions.{alone, expression_of, constant_in};
@@ -54,8 +54,8 @@ pub fn expressions(alloc: Global, operands: Operands) -> Result<Vec<Expr>, Place
 
 /// The value of a form, which has to be known.
 #[tactic(auto, unfolding(crate::specs::Expressions::constant_in))]
-pub(crate) fn constant_in(form: &Linear) -> Result<u64, PlaceFault>
-    ensures { GivesBy (λ value. value) result (constant_in form.now) }
+pub fn constant_in(form: &Linear) -> Result<u64, PlaceFault>
+    ensures { Returns result (constant_in form.now) }
 {
     match value_of(form) {
         Ok(value) => Ok(value),
