@@ -45,7 +45,7 @@ use Rattle.asm_frames.specs.Keeping.{line_here, OnlyNames}
 use Rattle.asm_frames.specs.Lines.{signed, slot_row, offset_row, rule_row}
 use Rattle.asm_frames.specs.Operands.{register_in, next_register, one_register, two_registers}
 use Rattle.asm_frames.specs.Placing.{with_procedures, taken_here, refused_by, end_taking, take_named, taken_over, take_line, take_rule, place_bare, place_sections, place_offset, place_slot, place_cfa_register, place_register, place_each, place_some, place_rules, place_pointer, place_frame}
-use Rattle.asm_frames.specs.Pointers.{pointer_in, keeps_place}
+use Rattle.asm_frames.specs.Pointers.{pointer_in, pointer_trees, keeps_place}
 
 -- what holds of all that a step makes
 record Leaves {A E : Type 0} (P : A → Type 0) (result : Result A E) : Type 0 where
@@ -189,7 +189,7 @@ module _ (P : Placed → Type 0) (pos : Pos) (placed : Placed)
   pointer_keeps : (kind : PointerKind) (tokens : List SpelledToken) → Leaves P (place_pointer kind pos tokens placed)
   unfolding place_pointer
   pointer_keeps kind tokens =
-      after (up_to_three_trees 2 (operands_of tokens))
+      after (pointer_trees (operands_of tokens))
       (λ trees. after (up_to_three_forms (known_here (with_names pos (up_to_three_listed trees) placed)) trees)
       (λ forms. after (pointer_in forms)
       (λ pointer. ended_keeps kind (up_to_three_listed trees) pointer

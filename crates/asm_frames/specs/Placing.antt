@@ -8,7 +8,7 @@ use Rattle.asm_operands.specs.declared.place_faults.PlaceCause.{PlaceCause}
 use Rattle.asm_operands.specs.declared.place_faults.PlaceCause.TheVariants as placing
 use Rattle.asm_expr.specs.Forms.{Form}
 use Rattle.asm_operands.specs.declared.up_to_three.UpToThree.{UpToThree}
-use Rattle.asm_operands.specs.Expressions.{up_to_three_listed, up_to_three_trees, up_to_three_forms}
+use Rattle.asm_operands.specs.Expressions.{up_to_three_listed, up_to_three_forms}
 use Rattle.asm_operands.specs.Operands.{operands_of, is_name, each}
 use Rattle.asm_operands.specs.Results.{all_steps}
 use Rattle.asm_uses.specs.declared.tables.Naming.{Naming}
@@ -36,7 +36,7 @@ use Rattle.asm_frames.specs.declared.words.RuleWord.TheVariants as rule
 use Rattle.asm_frames.specs.declared.words.SlotWord.{SlotWord}
 use Rattle.asm_frames.specs.declared.words.SlotWord.TheVariants as slot
 use Rattle.asm_frames.specs.Lines.{signed, slot_row, offset_row, rule_row}
-use Rattle.asm_frames.specs.Pointers.{pointer_in, keeps_place}
+use Rattle.asm_frames.specs.Pointers.{pointer_in, pointer_trees, keeps_place}
 use Rattle.asm_frames.specs.Operands.{register_in, next_register, one_register, two_registers}
 
 -- the fault of a directive as one of placing
@@ -142,7 +142,7 @@ end_pointer kind pos naming forms named =
 -- a directive of a pointer: an encoding, which has to be known, and what the pointer leads to
 unfoldable pub place_pointer : PointerKind → Pos → List SpelledToken → Placed → Result Placed PlaceCause
 place_pointer kind pos tokens placed =
-    up_to_three_trees 2 (operands_of tokens) >>= λ trees.
+    pointer_trees (operands_of tokens) >>= λ trees.
     let named = with_names pos (up_to_three_listed trees) placed in
     up_to_three_forms (known_here named) trees >>= λ forms.
     end_pointer kind pos (naming_of (up_to_three_listed trees) placed.table) forms named

@@ -1,15 +1,24 @@
 -- What directives say of pointers (GNU as manual, "CFI directives"; LSB 5.0, "DWARF Exception Header Encoding").
-use Rattle.std.specs.Prelude.{ℕ, ◌==◌, Bool, false, Option, None, Some, Result, Ok, Err, if◌then◌else◌}
+use Rattle.std.specs.Prelude.{ℕ, ◌==◌, Bool, false, List, [], ◌∷◌, Option, None, Some, Result, Ok, Err, if◌then◌else◌}
 use Rattle.asm_base.specs.Refusals.{◌>>=◌}
+use Rattle.asm_base.specs.Tokens.{SpelledToken}
 use Rattle.asm_expr.specs.Forms.{Form}
+use Rattle.asm_expr.specs.Trees.{Tree}
 use Rattle.asm_operands.specs.declared.place_faults.PlaceCause.{PlaceCause}
 use Rattle.asm_operands.specs.declared.place_faults.PlaceCause.TheVariants.{BadExpression, BadOperand, OutOfRange}
 use Rattle.asm_operands.specs.declared.up_to_three.UpToThree.{UpToThree}
-use Rattle.asm_operands.specs.Expressions.{constant_in}
+use Rattle.asm_operands.specs.Expressions.{constant_in, expression_of, no_more}
 use Rattle.asm_uses.specs.Places.{uses_place}
 use Rattle.cfi_directives.specs.declared.frames.Pointer.{Pointer}
 use Rattle.cfi_rows.specs.declared.pointers.PointerEncoding.{PointerEncoding}
 use Rattle.cfi_rows.specs.Pointers as pointers
+
+-- an encoding, and at most one expression more, which is not empty where its comma stands
+unfoldable pub pointer_trees : List (List SpelledToken) → Result (UpToThree Tree) PlaceCause
+pointer_trees [] = Err BadExpression
+pointer_trees (encoding ∷ []) = expression_of encoding >>= λ tree. Ok (record { first = tree; second = None; third = None })
+pointer_trees (encoding ∷ target ∷ operands) =
+    expression_of encoding >>= λ tree. expression_of target >>= λ there. no_more operands (record { first = tree; second = Some there; third = None })
 
 -- the encoding that a number says
 abbrev pub found_encoding : Option PointerEncoding → Result PointerEncoding PlaceCause

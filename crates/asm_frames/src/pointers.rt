@@ -1,23 +1,54 @@
 //! Directives of pointers: how each is written, and what it leads to (GNU as manual, "CFI directives").
 
 ghost use Rattle.std.specs.Prelude.{◌≡◌, map};
-ghost use Rattle.asm_base.specs.Refusals.{Gives, Returns};
+ghost use Rattle.asm_base.specs.Refusals.{GivesBy, Gives, Returns};
 ghost use Rattle.asm_base.specs.Tokens.{spelled};
+ghost use Rattle.asm_operands.specs.OperandParts.{operands_left};
+ghost use Rattle.asm_operands.specs.UpToThreeTrees.{trees_in};
 ghost use Rattle.asm_values.specs.PlacedBy.{PlacesBy};
 ghost use Rattle.asm_frames.specs.Placing.{place_pointer};
 ghost use Rattle.asm_frames.specs.Pointers as spec;
 
 use crate::taking::take_line;
 use asm_base::{Pos, Token};
-use asm_expr::Linear;
-use asm_operands::{Operands, PlaceCause, PlaceFault, UpToThree, constant_in, up_to_three_trees};
+use asm_expr::{Expr, Linear};
+use asm_operands::{
+    Operands, PlaceCause, PlaceFault, UpToThree, constant_in, expression_of, no_more,
+};
 use asm_uses::{View, up_to_three_forms, uses_place};
 use asm_values::Assembler;
 use cfi_directives::{CfiLine, Pointer, PointerKind};
 use cfi_rows::PointerEncoding;
+use std::alloc::Global;
 
 /// The number of the encoding that says that there is no pointer.
 const OMITTED: u64 = 0xff;
+
+/// An encoding, and at most one expression more.
+#[tactic(auto, unfolding(crate::specs::Pointers::pointer_trees))]
+fn pointer_trees(
+    alloc: Global,
+    operands: &mut Operands,
+) -> Result<UpToThree<Expr>, PlaceFault>
+    ensures { GivesBy trees_in result (spec.pointer_trees (operands_left operands.old)) }
+{
+    let Some(encoding) = operands.next() else {
+        return Err(PlaceFault::Fault(PlaceCause::BadExpression));
+    };
+    let first = expression_of(alloc, encoding)?;
+    let second = match operands.next() {
+        Some(target) => Some(expression_of(alloc, target)?),
+        None => None,
+    };
+    no_more(
+        operands,
+        UpToThree {
+            first,
+            second,
+            third: None,
+        },
+    )
+}
 
 /// The encoding that a number says.
 fn encoding_of(number: u64) -> Result<PointerEncoding, PlaceFault>
@@ -75,7 +106,7 @@ pub(crate) fn place_pointer(
         assembler.old assembler.new result }
     ensures kept { assembler.new.notes ≡ assembler.old.notes }
 {
-    let exprs = up_to_three_trees(assembler.alloc, 2, &mut Operands::new(tokens))?;
+    let exprs = pointer_trees(assembler.alloc, &mut Operands::new(tokens))?;
     let naming = assembler.table.intern_up_to_three(pos, &exprs)?;
     let view = assembler.view();
     let forms = up_to_three_forms(assembler.alloc, view, &exprs)?;
