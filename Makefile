@@ -35,11 +35,11 @@ check:
 # What no clause can say: the built program on files and devices that fail, and its objects linked by gcc, those of
 # random C programs with them, and the frame tables of these, also step by step beside what calls really saved, and
 # their line tables as debuggers read them. Random expressions beside Python's integers, and the objects of random
-# sources, those with macros too, and the code of random instructions beside those of the machine's GNU as, and beside
-# their Intel forms. Hostile sources, of random bytes and words and of real ones with parts changed. The rows of the
-# instruction table beside the machine's objdump, and what is made of them: a document, and the indices and keys by
-# which they are found. The functions of the rows of the analysis of the stack beside a model. The examples of README
-# and docs/USING.md.
+# sources, those with macros too, and the code of random instructions beside those of the machine's GNU as, and
+# beside their Intel forms. Hostile sources, of random bytes and words and of real ones with parts changed; runs in
+# which one allocation is refused. The rows of the instruction table beside the machine's objdump, and what is made
+# of them: a document, and the indices and keys by which they are found. The functions of the rows of the analysis
+# of the stack beside a model. The examples of README and docs/USING.md.
 check-outside: all
 	checks/examples.py build/as
 	checks/outside.sh build/as
@@ -58,6 +58,7 @@ check-outside: all
 	checks/lines.py --ours build/as
 	checks/cxx.sh build/as
 	checks/hostile.py --ours build/as --count 400
+	checks/refused.py --ours build/as --most 200
 	checks/rows.py
 	checks/stacks.py
 	tools/instructions.py --check
