@@ -1,6 +1,8 @@
 -- The order of places: they never fall within a procedure, if those that are handed in don't.
-use Rattle.std.specs.Prelude.{◌≡◌, ◌≤◌, List, [], ◌∷◌, ◌++◌, map, All, IfSome, IsSomeAnd}
+use Rattle.std.specs.Prelude.{◌≡◌, ◌≤◌, List, [], ◌∷◌, ◌++◌, map, All, None, IfSome, IsSomeAnd}
 use Rattle.cfi_directives.specs.declared.frames.Frame.{Frame}
+use Rattle.cfi_directives.specs.declared.lines.CfiLine.{CfiLine}
+use Rattle.cfi_directives.specs.declared.lines.CfiLine.TheVariants.{StartProc, EndProc, Row, Point}
 use Rattle.asm_base.specs.declared.places.Place.{Place}
 use Rattle.asm_base.specs.declared.places.SectionPlace.{SectionPlace}
 use Rattle.cfi_directives.specs.Procedures.{Procedures}
@@ -42,9 +44,18 @@ pub record AreInOrder (procedures : Procedures) : Type 0 where
 abbrev pub IsReached : Procedures → SectionPlace → Type 0
 IsReached procedures at = IfSome procedures.begun (λ frame. IsUpTo (last_place frame) at.place)
 
--- the open procedure has come to this place, and not past it
-abbrev pub HasComeTo : SectionPlace → Procedures → Type 0
-HasComeTo at procedures = IfSome procedures.begun (λ frame. (frame.section ≡ at.section) × IsUpTo (last_place frame) at.place)
+-- the procedure has come to a place of its section: its last place so far is this one
+abbrev pub IsAt : SectionPlace → Frame → Type 0
+IsAt at frame = (frame.section ≡ at.section) × (last_place frame ≡ at.place)
+
+-- a line at this place was taken: by the one that begins it and by those of its rows the open procedure has come to the place, and the one that ends it leaves
+-- none open; the line of a pointer has no place in the procedure, which is not past this one where it wasn't before
+abbrev pub HasComeTo : CfiLine → SectionPlace → Procedures → Procedures → Type 0
+HasComeTo (StartProc pos) at before now = IsSomeAnd now.begun (IsAt at)
+HasComeTo EndProc at before now = now.begun ≡ None
+HasComeTo (Row directive) at before now = IsSomeAnd now.begun (IsAt at)
+HasComeTo (Point kind pointer) at before now =
+    IsSomeAnd now.begun (λ frame. (frame.section ≡ at.section) × (IsReached before at → IsUpTo (last_place frame) at.place))
 
 -- no line stands before the one before it, where both stand in one section
 abbrev pub LinesNeverFall : List PlacedLine → Type 0

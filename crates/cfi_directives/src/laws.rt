@@ -113,13 +113,14 @@ pub fn rows_are_meant()
 {}
 
 /// Where the places of directives never fall, those of each procedure that has ended don't, from its beginning over its
-/// instructions to its end: one directive more keeps it so, and takes the open procedure to its place at most.
+/// instructions to its end: one directive more keeps it so. It takes the open procedure to its own place, or ends it; one of
+/// a personality or an LSDA, which has no place in a procedure, takes it not past its own.
 pub fn places_never_fall()
     ensures kept { (line : CfiLine) (at : SectionPlace) (procedures next : Procedures)
         → taken line at procedures ≡ Ok next → AreInOrder procedures → IsReached procedures at
         → AreInOrder next }
     ensures reached { (line : CfiLine) (at : SectionPlace) (procedures next : Procedures)
-        → taken line at procedures ≡ Ok next → IsReached procedures at → HasComeTo at next }
+        → taken line at procedures ≡ Ok next → HasComeTo line at procedures next }
     ensures all { (lines : List PlacedLine) (procedures : Procedures)
         → procedures_of lines ≡ Ok procedures → LinesNeverFall lines
         → All IsInOrder procedures.closed }

@@ -7,6 +7,8 @@ pub mod FairLemmas
 pub mod PieceLemmas
 pub mod WrittenLemmas
 pub mod CommonLemmas
+pub mod EncodingLemmas
+pub mod FormOfBytes
 pub mod EntryLemmas
 pub mod DifferenceLemmas
 pub mod RowListLemmas

@@ -5,7 +5,7 @@ use Rattle.cfi_rows.specs.Places.{row_in_force}
 use Rattle.cfi_rows.specs.Pointers.{encoding_of}
 use Rattle.cfi_rows.specs.Commons.{common_of}
 use Rattle.leb128.specs.Digits.{uleb_bytes, sleb_bytes}
-use Rattle.cfi_rows.specs.WorkedRows.{FrameRows, OtherRows, WorkedCommons, WorkedDifferences, WrittenBytes}
+use Rattle.cfi_rows.specs.WorkedRows.{FrameRows, OtherRows, PointerRows, WorkedCommons, WorkedDifferences, WrittenBytes}
 
 pub frame_rows : FrameRows
 unfolding extended nop_or_advance register_rule state_or_cfa signed_or_value row_in_force common_of encoding_of uleb_bytes sleb_bytes
@@ -63,14 +63,30 @@ other_rows = record {
   long_form = refl;
   augmented = refl;
   other_common = refl;
+  no_entry = refl;
+}
+
+pub pointer_rows : PointerRows
+unfolding extended nop_or_advance register_rule state_or_cfa signed_or_value row_in_force common_of encoding_of uleb_bytes sleb_bytes
+pointer_rows = record {
   personality_passed = refl;
-  wide_passed = refl;
+  lsda_passed = refl;
   both_passed = refl;
+  wide_passed = refl;
+  two_sizes_passed = refl;
+  any_personality = refl;
   lsda_missing = refl;
+  lsda_alone_missing = refl;
+  lsda_unsaid = refl;
+  lsda_too_long = refl;
+  lsda_too_short = refl;
+  lsda_as_personality = refl;
   other_pointer = refl;
+  other_letters = refl;
   other_order = refl;
   other_data = refl;
-  no_entry = refl;
+  no_nops = refl;
+  needless_nops = refl;
 }
 
 pub written_bytes : WrittenBytes
@@ -107,6 +123,8 @@ written_bytes = record {
 pub common_entries : WorkedCommons
 common_entries = record {
   plain = refl;
+  lsda = refl;
+  two_sizes = refl;
   personality = refl;
   both = refl;
   wide = refl;

@@ -1,5 +1,5 @@
 -- The common entries of an `.eh_frame` section (psABI, section 4.2.4; LSB 5.0, "The Common Information Entry Format").
-use Rattle.std.specs.Prelude.{ℕ, ◌+◌, ◌%◌, Bool, true, false, List, [], ◌∷◌, ◌++◌, Option, None, Some, length, take, drop, nat_le, ◌==◌, if◌then◌else◌, ◌&&◌, ◌||◌}
+use Rattle.std.specs.Prelude.{◌≡◌, ℕ, ◌+◌, ◌%◌, Bool, true, false, List, [], ◌∷◌, ◌++◌, Option, None, Some, length, take, drop, nat_le, ◌==◌, if◌then◌else◌, ◌&&◌, ◌||◌}
 use Rattle.std.specs.Option.{option_map, option_and_then}
 use Rattle.std.specs.Str.{bytes_eq}
 use Rattle.cfi_rows.specs.declared.commons.CommonForm.{CommonForm}
@@ -17,27 +17,27 @@ letter_if letter None = []
 letter_if letter (Some encoding) = letter ∷ []
 
 -- the byte of an encoding, where there is one
-abbrev pub encoding_if : Option PointerEncoding → List ℕ
-encoding_if None = []
-encoding_if (Some encoding) = encoding_byte encoding ∷ []
+abbrev pub encoding_bytes_if : Option PointerEncoding → List ℕ
+encoding_bytes_if None = []
+encoding_bytes_if (Some encoding) = encoding_byte encoding ∷ []
 
 -- two nops, where the entry has to have them to come to a multiple of 4 bytes
 abbrev pub common_padding : CommonForm → List ℕ
-common_padding form = if length (encoding_if form.personality) == length (encoding_if form.lsda) then 0x00 ∷ 0x00 ∷ [] else []
+common_padding form = if length (encoding_bytes_if form.personality) == length (encoding_bytes_if form.lsda) then 0x00 ∷ 0x00 ∷ [] else []
 
 -- the length of the augmentation data: an encoding and the pointer to the personality, the encoding of the pointers to LSDAs, and that of the places of
 -- code
 abbrev pub data_length : CommonForm → ℕ
-data_length form = length (encoding_if form.personality) + size_if form.personality + length (encoding_if form.lsda) + 1
+data_length form = length (encoding_bytes_if form.personality) + size_if form.personality + length (encoding_bytes_if form.lsda) + 1
 
 -- what stands behind the pointer to the personality: pointers to code have 4 bytes and count from their own place; def_cfa rsp 8, offset of column 16 at -8
 abbrev pub common_tail : CommonForm → List ℕ
-common_tail form = encoding_if form.lsda ++ 0x1b ∷ 0x0c ∷ 0x07 ∷ 0x08 ∷ 0x90 ∷ 0x01 ∷ common_padding form
+common_tail form = encoding_bytes_if form.lsda ++ 0x1b ∷ 0x0c ∷ 0x07 ∷ 0x08 ∷ 0x90 ∷ 0x01 ∷ common_padding form
 
 -- what stands behind the letters: that of the places of code, the end, code alignment 1, data alignment -8, return address in column 16, and the data up to
 -- the pointer to the personality
 abbrev pub behind_letters : CommonForm → List ℕ
-behind_letters form = 0x52 ∷ 0x00 ∷ 0x01 ∷ 0x78 ∷ 0x10 ∷ data_length form ∷ encoding_if form.personality
+behind_letters form = 0x52 ∷ 0x00 ∷ 0x01 ∷ 0x78 ∷ 0x10 ∷ data_length form ∷ encoding_bytes_if form.personality
 
 -- what stands between the length and the pointer to the personality: this is a common entry, version 1, and the augmentation, which has data
 abbrev pub behind_length : CommonForm → List ℕ
@@ -91,7 +91,8 @@ abbrev pub form_in : Bool → Bool → List ℕ → Option CommonForm
 form_in personality lsda said =
     option_and_then (λ one. option_and_then (ended_form one.0) (encoding_in lsda one.1)) (option_and_then behind_pointer (encoding_in personality said))
 
--- the instructions of a common entry, with two nops or without
+-- the instructions of a CIE, with two nops of padding or without: that the length is a multiple of 4 (`counted_common`) lets just one of the two through for
+-- each form
 abbrev pub is_common_code : List ℕ → Bool
 is_common_code code =
     bytes_eq code (0x0c ∷ 0x07 ∷ 0x08 ∷ 0x90 ∷ 0x01 ∷ []) || bytes_eq code (0x0c ∷ 0x07 ∷ 0x08 ∷ 0x90 ∷ 0x01 ∷ 0x00 ∷ 0x00 ∷ [])
@@ -119,6 +120,14 @@ counted_common (count, rest) =
     if (count == length rest) && (count % 4 == 0)
     then option_and_then with_letters (behind (0x00 ∷ 0x00 ∷ 0x00 ∷ 0x00 ∷ 0x01 ∷ 0x7a ∷ []) rest) else None
 
--- the form of a common entry, and its instructions
+-- the form of a CIE, and its instructions. There is one just where the bytes are the CIE of a form, byte for byte but for the pointer to the personality, which
+-- may be any bytes, as many as its encoding says; and it is that form (`common_entries_read`, clauses `form` and `only`)
 unfoldable pub common_of : List ℕ → Option (CommonForm × List ℕ)
 common_of cie = option_and_then counted_common (four_bytes_of cie)
+
+-- the bytes are the CIE of a form, with some pointer to the personality, and these are its instructions
+pub record IsCommonOf (cie : List ℕ) (form : CommonForm) (code : List ℕ) : Type 0 where
+  pub pointer : List ℕ
+  pub sized : length pointer ≡ size_if form.personality
+  pub whole : cie ≡ common_entry form pointer
+  pub instructions : code ≡ 0x0c ∷ 0x07 ∷ 0x08 ∷ 0x90 ∷ 0x01 ∷ common_padding form

@@ -3,8 +3,9 @@ use Rattle.std.specs.Prelude.{ℕ, Bool, true, false, Option, None, Some, ◌==�
 use Rattle.cfi_rows.specs.declared.pointers.PointerEncoding.{PointerEncoding}
 use Rattle.cfi_rows.specs.declared.pointers.PointerEncoding.TheVariants.{Absolute8, Unsigned4, Signed4, Relative4, Indirect4, Relative8, Indirect8}
 
--- the byte that says an encoding: 03 is a number in 4 bytes and 0b one with a sign, 0c is one with a sign in 8 bytes, 10 more counts it from its own place,
--- and 80 more makes it the address of the pointer
+-- the byte that says an encoding (`DW_EH_PE_`). Its lower half is the format of the value: absptr (0) is an address of 8 bytes, udata4 (3) has 4 bytes without
+-- a sign, sdata4 (b) 4 bytes with one, sdata8 (c) 8 bytes with one. Its upper half is what the value means: pcrel (10), it is counted from its own place;
+-- indirect (80), it leads to where the pointer is kept. omit (ff), that there is no pointer, is the byte of none of these
 abbrev pub encoding_byte : PointerEncoding → ℕ
 encoding_byte Absolute8 = 0x00
 encoding_byte Unsigned4 = 0x03
@@ -14,7 +15,7 @@ encoding_byte Indirect4 = 0x9b
 encoding_byte Relative8 = 0x1c
 encoding_byte Indirect8 = 0x9c
 
--- the encoding that a number says
+-- the encoding that a number says: that whose byte it is, and none where it is the byte of none of these (`encodings_read_back`)
 unfoldable pub encoding_of : ℕ → Option PointerEncoding
 encoding_of number =
     if number == 0x00 then Some Absolute8

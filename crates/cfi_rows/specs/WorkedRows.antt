@@ -1,10 +1,10 @@
 -- Rows of a frame table by its bytes, worked out by hand (DWARF 5, section 6.4.3 and appendix D.6).
-use Rattle.std.specs.Prelude.{◌≡◌, ℕ, ◌-◌, ◌^◌, pos, neg_ℤ, List, [], ◌∷◌, ◌++◌, Option, None, Some, replicate, slice_set}
+use Rattle.std.specs.Prelude.{◌≡◌, ℕ, ◌-◌, ◌^◌, pos, neg_ℤ, List, [], ◌∷◌, ◌++◌, Option, None, Some, replicate, slice_set, take}
 use Rattle.cfi_rows.specs.declared.rows.CfaRow.{CfaRow}
 use Rattle.cfi_rows.specs.declared.rows.CfiOp.TheVariants.{DefCfa, DefCfaRegister, DefCfaOffset, Set, Restore}
 use Rattle.cfi_rows.specs.declared.rows.Rule.TheVariants.{Unspecified, Undefined, SameValue, Offset, ValueOffset, Register}
 use Rattle.cfi_rows.specs.Rows.{common_row, with_cfa, with_rule}
-use Rattle.cfi_rows.specs.declared.pointers.PointerEncoding.TheVariants.{Absolute8, Relative4, Indirect4}
+use Rattle.cfi_rows.specs.declared.pointers.PointerEncoding.TheVariants.{Absolute8, Relative4, Indirect4, Indirect8}
 use Rattle.cfi_rows.specs.Commons.{common_bytes, common_entry, plain_form}
 use Rattle.cfi_rows.specs.Entries.{row_of}
 use Rattle.cfi_rows.specs.Lines.{entry_bytes}
@@ -62,7 +62,29 @@ of_wide =
     0x20 ∷ 0x00 ∷ 0x00 ∷ 0x00 ∷ 0x00 ∷ 0x00 ∷ 0x00 ∷ 0x00 ∷ 0x01 ∷ 0x7a ∷ 0x50 ∷ 0x4c ∷ 0x52 ∷ 0x00 ∷ 0x01 ∷ 0x78 ∷ 0x10 ∷ 0x0b
     ∷ 0x00 ∷ 0x00 ∷ 0x00 ∷ 0x00 ∷ 0x00 ∷ 0x00 ∷ 0x00 ∷ 0x00 ∷ 0x00 ∷ 0x00 ∷ 0x1b ∷ 0x0c ∷ 0x07 ∷ 0x08 ∷ 0x90 ∷ 0x01 ∷ 0x00 ∷ 0x00 ∷ []
 
--- of other entries: pointers to personalities and LSDAs are passed over, the row is remembered whole, an advance by 0, ones of 2, 3 and 5 bytes, padding, and what no entry is
+-- a CIE that says no personality, and that pointers to LSDAs have 4 bytes, from their own place
+abbrev pub of_lsda : List ℕ
+of_lsda =
+    0x14 ∷ 0x00 ∷ 0x00 ∷ 0x00 ∷ 0x00 ∷ 0x00 ∷ 0x00 ∷ 0x00 ∷ 0x01 ∷ 0x7a ∷ 0x4c ∷ 0x52 ∷ 0x00 ∷ 0x01 ∷ 0x78 ∷ 0x10 ∷ 0x02 ∷ 0x1b ∷ 0x1b
+    ∷ 0x0c ∷ 0x07 ∷ 0x08 ∷ 0x90 ∷ 0x01 ∷ []
+
+-- the CIE of a personality whose pointer has 8 bytes, from its own place, and is indirect; pointers to LSDAs have 4
+abbrev pub of_two_sizes : List ℕ
+of_two_sizes =
+    0x20 ∷ 0x00 ∷ 0x00 ∷ 0x00 ∷ 0x00 ∷ 0x00 ∷ 0x00 ∷ 0x00 ∷ 0x01 ∷ 0x7a ∷ 0x50 ∷ 0x4c ∷ 0x52 ∷ 0x00 ∷ 0x01 ∷ 0x78 ∷ 0x10 ∷ 0x0b
+    ∷ 0x9c ∷ 0x00 ∷ 0x00 ∷ 0x00 ∷ 0x00 ∷ 0x00 ∷ 0x00 ∷ 0x00 ∷ 0x00 ∷ 0x1b ∷ 0x1b ∷ 0x0c ∷ 0x07 ∷ 0x08 ∷ 0x90 ∷ 0x01 ∷ 0x00 ∷ 0x00 ∷ []
+
+-- the same as `of_both` with L before P, in the string and in the data: no CIE that is taken
+abbrev pub of_other_order : List ℕ
+of_other_order =
+    0x1c ∷ 0x00 ∷ 0x00 ∷ 0x00 ∷ 0x00 ∷ 0x00 ∷ 0x00 ∷ 0x00 ∷ 0x01 ∷ 0x7a ∷ 0x4c ∷ 0x50 ∷ 0x52 ∷ 0x00 ∷ 0x01 ∷ 0x78 ∷ 0x10 ∷ 0x07
+    ∷ 0x1b ∷ 0x9b ∷ 0x00 ∷ 0x00 ∷ 0x00 ∷ 0x00 ∷ 0x1b ∷ 0x0c ∷ 0x07 ∷ 0x08 ∷ 0x90 ∷ 0x01 ∷ 0x00 ∷ 0x00 ∷ []
+
+-- the row one byte from the start of an FDE with this distance back to its CIE and this pointer to its LSDA
+abbrev pub Passes : List ℕ → ℕ → List ℕ → Option CfaRow → Type 0
+Passes cie back lsda row = row_of cie (entry_bytes back 0 6 lsda framed) 1 ≡ row
+
+-- of other entries: the row is remembered whole, an advance by 0, ones of 2, 3 and 5 bytes, padding, and what no entry is
 pub record OtherRows : Type 0 where
   pub changed_now : Stands 6 remembered 0 (Some (with_rule (with_cfa common_row 7 (pos 24)) 3 Undefined))
   pub restored : Stands 6 remembered 1 (Some common_row)
@@ -106,14 +128,29 @@ pub record OtherRows : Type 0 where
   pub long_form : row_of common_bytes (0xff ∷ 0xff ∷ 0xff ∷ 0xff ∷ 28 ∷ 0 ∷ 0 ∷ 0 ∷ 0 ∷ 0 ∷ 0 ∷ 0 ∷ 6 ∷ 0 ∷ 0 ∷ 0 ∷ 0 ∷ []) 0 ≡ None
   pub augmented : row_of common_bytes (14 ∷ 0 ∷ 0 ∷ 0 ∷ 28 ∷ 0 ∷ 0 ∷ 0 ∷ 0 ∷ 0 ∷ 0 ∷ 0 ∷ 6 ∷ 0 ∷ 0 ∷ 0 ∷ 1 ∷ 0 ∷ []) 0 ≡ None
   pub other_common : row_of (slice_set common_bytes 13 0x7c) (entry_bytes 28 0 6 [] framed) 0 ≡ None
-  pub personality_passed : row_of of_personality (entry_bytes 32 0 6 [] framed) 1 ≡ Some pushed
-  pub wide_passed : row_of of_wide (entry_bytes 40 0 6 (replicate 8 0) framed) 1 ≡ Some pushed
-  pub both_passed : row_of of_both (entry_bytes 36 0 6 (1 ∷ 2 ∷ 3 ∷ 4 ∷ []) framed) 1 ≡ Some pushed
-  pub lsda_missing : row_of of_both (entry_bytes 36 0 6 [] framed) 1 ≡ None
-  pub other_pointer : row_of (slice_set of_both 18 0x10) (entry_bytes 36 0 6 (1 ∷ 2 ∷ 3 ∷ 4 ∷ []) framed) 1 ≡ None
-  pub other_order : row_of (slice_set (slice_set of_both 10 0x4c) 11 0x50) (entry_bytes 36 0 6 (1 ∷ 2 ∷ 3 ∷ 4 ∷ []) framed) 1 ≡ None
-  pub other_data : row_of (slice_set of_both 17 0x08) (entry_bytes 36 0 6 (1 ∷ 2 ∷ 3 ∷ 4 ∷ []) framed) 1 ≡ None
   pub no_entry : row_of common_bytes (13 ∷ 0 ∷ 0 ∷ 0 ∷ 0 ∷ 0 ∷ 0 ∷ 0 ∷ 0 ∷ 0 ∷ 0 ∷ 0 ∷ 6 ∷ 0 ∷ 0 ∷ 0 ∷ 0 ∷ []) 0 ≡ None
+
+-- of CIEs with the pointer to a personality or the encoding of pointers to LSDAs: the pointers are passed over, whatever they are, and the data of an FDE has
+-- just the size that its CIE says; and what is no CIE: another encoding, another order, another length of the data, no nops where there have to be two
+pub record PointerRows : Type 0 where
+  pub personality_passed : Passes of_personality 32 [] (Some pushed)
+  pub lsda_passed : Passes of_lsda 28 (1 ∷ 2 ∷ 3 ∷ 4 ∷ []) (Some pushed)
+  pub both_passed : Passes of_both 36 (1 ∷ 2 ∷ 3 ∷ 4 ∷ []) (Some pushed)
+  pub wide_passed : Passes of_wide 40 (replicate 8 0) (Some pushed)
+  pub two_sizes_passed : Passes of_two_sizes 40 (1 ∷ 2 ∷ 3 ∷ 4 ∷ []) (Some pushed)
+  pub any_personality : Passes (slice_set of_two_sizes 26 0xff) 40 (1 ∷ 2 ∷ 3 ∷ 4 ∷ []) (Some pushed)
+  pub lsda_missing : Passes of_both 36 [] None
+  pub lsda_alone_missing : Passes of_lsda 28 [] None
+  pub lsda_unsaid : Passes of_personality 32 (1 ∷ 2 ∷ 3 ∷ 4 ∷ []) None
+  pub lsda_too_long : Passes of_lsda 28 (replicate 8 0) None
+  pub lsda_too_short : Passes of_wide 40 (1 ∷ 2 ∷ 3 ∷ 4 ∷ []) None
+  pub lsda_as_personality : Passes of_two_sizes 40 (replicate 8 0) None
+  pub other_pointer : Passes (slice_set of_both 18 0x10) 36 (1 ∷ 2 ∷ 3 ∷ 4 ∷ []) None
+  pub other_letters : Passes (slice_set (slice_set of_both 10 0x4c) 11 0x50) 36 (1 ∷ 2 ∷ 3 ∷ 4 ∷ []) None
+  pub other_order : Passes of_other_order 36 (1 ∷ 2 ∷ 3 ∷ 4 ∷ []) None
+  pub other_data : Passes (slice_set of_both 17 0x08) 36 (1 ∷ 2 ∷ 3 ∷ 4 ∷ []) None
+  pub no_nops : Passes (slice_set (take 30 of_both) 0 0x1a) 36 (1 ∷ 2 ∷ 3 ∷ 4 ∷ []) None
+  pub needless_nops : Passes (slice_set of_lsda 0 0x16 ++ 0 ∷ 0 ∷ []) 28 (1 ∷ 2 ∷ 3 ∷ 4 ∷ []) None
 
 -- the bytes of instructions
 pub record WrittenBytes : Type 0 where
@@ -144,9 +181,11 @@ pub record WrittenBytes : Type 0 where
   pub unspecified : written (Set 6 Unspecified) ≡ None
   pub restored : written (Restore 6) ≡ Some (0xc6 ∷ [])
 
--- common entries have the bytes of their forms
+-- CIEs have the bytes of their forms
 pub record WorkedCommons : Type 0 where
   pub plain : common_entry plain_form [] ≡ common_bytes
+  pub lsda : common_entry (record { personality = None; lsda = Some Relative4 }) [] ≡ of_lsda
+  pub two_sizes : common_entry (record { personality = Some Indirect8; lsda = Some Relative4 }) (replicate 8 0) ≡ of_two_sizes
   pub personality : common_entry (record { personality = Some Indirect4; lsda = None }) (replicate 4 0) ≡ of_personality
   pub both : common_entry (record { personality = Some Indirect4; lsda = Some Relative4 }) (replicate 4 0) ≡ of_both
   pub wide : common_entry (record { personality = Some Absolute8; lsda = Some Absolute8 }) (replicate 8 0) ≡ of_wide

@@ -153,7 +153,7 @@ fn push_letter(bytes: &mut CommonBytes, letter: u8, encoding: Option<PointerEnco
 /// Appends the byte of an encoding, where there is one.
 fn push_encoding(bytes: &mut CommonBytes, encoding: Option<PointerEncoding>)
     requires { array_vec_len bytes.old < 24 }
-    ensures value { bytes.new.items ≡ bytes.old.items ++ spec.encoding_if encoding }
+    ensures value { bytes.new.items ≡ bytes.old.items ++ spec.encoding_bytes_if encoding }
     ensures len { array_vec_len bytes.new ≤ array_vec_len bytes.old + 1 }
 {
     if let Some(encoding) = encoding {

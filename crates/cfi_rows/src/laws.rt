@@ -11,14 +11,15 @@ ghost use Rattle.cfi_rows.specs.Rows.{common_row, ops_after, rows_of, start_rows
 ghost use Rattle.cfi_rows.specs.Instructions.{next};
 ghost use Rattle.cfi_rows.specs.Places.{AreCodeOf, decoded, Placed, row_after, row_in_force};
 ghost use Rattle.cfi_rows.specs.declared.commons.CommonForm.{CommonForm};
-ghost use Rattle.cfi_rows.specs.Pointers.{size_if};
-ghost use Rattle.cfi_rows.specs.Commons.{common_bytes, common_entry, common_length, common_of, common_padding, plain_form};
+ghost use Rattle.cfi_rows.specs.declared.pointers.PointerEncoding.{PointerEncoding};
+ghost use Rattle.cfi_rows.specs.Pointers.{encoding_byte, encoding_of, size_if};
+ghost use Rattle.cfi_rows.specs.Commons.{common_bytes, common_entry, common_length, common_of, common_padding, IsCommonOf, plain_form};
 ghost use Rattle.cfi_rows.specs.Entries.{initial_row, row_of};
 ghost use Rattle.cfi_rows.specs.Written.{written};
 ghost use Rattle.cfi_rows.specs.Lines.{Line, AreLines, bytes_of, ops_of, entry_bytes, row_due};
 ghost use Rattle.cfi_rows.specs.Differences.{differences, IsReached, HaveForms};
 ghost use Rattle.cfi_rows.specs.RowLists.{RowPlace, AreRising, Leads, row_at_place};
-ghost use Rattle.cfi_rows.specs.WorkedRows.{FrameRows, OtherRows, WorkedCommons, WorkedDifferences, WrittenBytes};
+ghost use Rattle.cfi_rows.specs.WorkedRows.{FrameRows, OtherRows, PointerRows, WorkedCommons, WorkedDifferences, WrittenBytes};
 
 use leb128::numbers_read_back;
 
@@ -70,8 +71,18 @@ pub fn rows_read_back()
     numbers_read_back();
 }
 
-/// The common entry of a form reads as it, whatever the pointer to the personality is, and gives the row where a procedure
-/// begins. Its length counts what follows, and is a multiple of 4.
+/// The two tables of encodings are inverse to each other: the byte of an encoding says that encoding, and a number that
+/// says one is its byte.
+#[tactic(auto, using(crate::proofs::EncodingLemmas::byte_says, crate::proofs::EncodingLemmas::said_by_byte))]
+pub fn encodings_read_back()
+    ensures read { (encoding : PointerEncoding)
+        → encoding_of (encoding_byte encoding) ≡ Some encoding }
+    ensures only { (number : ℕ) (encoding : PointerEncoding)
+        → encoding_of number ≡ Some encoding → number ≡ encoding_byte encoding }
+{}
+
+/// The CIE of a form reads as it, whatever the pointer to the personality is, and gives the row where a procedure begins.
+/// Its length counts what follows, and is a multiple of 4. Bytes that read as a form are its CIE: no others are read.
 pub fn common_entries_read()
     ensures form { (form : CommonForm) (pointer : List ℕ)
         → length pointer ≡ size_if form.personality
@@ -85,9 +96,11 @@ pub fn common_entries_read()
         → length pointer ≡ size_if form.personality
         → (length (common_entry form pointer) ≡ 4 + common_length form)
         × (common_length form % 4 ≡ 0) }
+    ensures only { (cie : List ℕ) (form : CommonForm) (code : List ℕ)
+        → common_of cie ≡ Some (form, code) → IsCommonOf cie form code }
 {}
 
-/// The same of a whole entry below its range, whatever the pointer to its LSDA is.
+/// A whole FDE reads so below its range, with the CIE of its form, whatever the pointer to its LSDA is.
 pub fn entries_read_back()
     ensures { (form : CommonForm) (pointer lsda : List ℕ) (at padding back first range : ℕ)
         (lines : List Line) → length pointer ≡ size_if form.personality
@@ -123,10 +136,11 @@ pub fn rows_stand_at_places()
         → row_after initial at ops (start_rows initial) ≡ Some (row_at_place at initial rows) }
 {}
 
-/// The rows, the bytes, the common entries and the differences that are worked out by hand.
+/// The rows, the bytes, the CIEs and the differences that are worked out by hand.
 pub fn worked_rows()
     ensures framed { FrameRows }
     ensures others { OtherRows }
+    ensures pointers { PointerRows }
     ensures bytes { WrittenBytes }
     ensures commons { WorkedCommons }
     ensures differences { WorkedDifferences }

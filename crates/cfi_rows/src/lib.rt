@@ -19,9 +19,9 @@ pub use differences::diff;
 pub use entries::row_at;
 pub use instructions::next_insn;
 pub use laws::{
-    common_entries_read, differences_lead, entries_read_back, instructions_read_back,
-    instructions_stand_in_row, numbers_are_least, rows_read_back, rows_stand_at_places,
-    worked_rows,
+    common_entries_read, differences_lead, encodings_read_back, entries_read_back,
+    instructions_read_back, instructions_stand_in_row, numbers_are_least, rows_read_back,
+    rows_stand_at_places, worked_rows,
 };
 pub use pointers::PointerEncoding;
 pub use rows::{CfaRow, CfiBytes, CfiOp, CfiOps, Insn, Rule};

@@ -3,28 +3,29 @@
 ghost use Rattle.std.specs.Prelude.{◌≡◌};
 ghost use Rattle.cfi_rows.specs.Pointers as spec;
 
-/// How a pointer is written: in how many bytes, and what it counts from. One that is indirect is the address of the
-/// pointer.
+/// How a pointer is written: the format of its value, and what the value means. In the standard's words (`DW_EH_PE_`):
+/// `absptr`, `udata4`, `sdata4` and `sdata8` are formats; a value that is `pcrel` is counted from its own place, and one
+/// that is `indirect` leads to where the pointer is kept. `omit` (ff), no pointer at all, is none of these.
 #[derive(Clone, Copy, PartialEq, Eq, Debug)]
 pub enum PointerEncoding {
-    /// 00: in eight bytes.
+    /// 00, `absptr`: an address of eight bytes.
     Absolute8,
-    /// 03: in four bytes, without a sign.
+    /// 03, `udata4`: four bytes without a sign.
     Unsigned4,
-    /// 0b: in four bytes, with a sign.
+    /// 0b, `sdata4`: four bytes with a sign.
     Signed4,
-    /// 1b: in four bytes, counted from its own place.
+    /// 1b, `pcrel` and `sdata4`: four bytes with a sign, counted from its own place.
     Relative4,
-    /// 9b: the same, and indirect.
+    /// 9b, `indirect`, `pcrel` and `sdata4`: the same, to where the pointer is kept.
     Indirect4,
-    /// 1c: in eight bytes, counted from its own place.
+    /// 1c, `pcrel` and `sdata8`: eight bytes with a sign, counted from its own place.
     Relative8,
-    /// 9c: the same, and indirect.
+    /// 9c, `indirect`, `pcrel` and `sdata8`: the same, to where the pointer is kept.
     Indirect8,
 }
 
 impl PointerEncoding {
-    /// The encoding that a number says. None where it is none of those that are taken.
+    /// The encoding that a number says. None where it is none of those that are taken: of ff (`omit`), too.
     #[tactic(auto, unfolding(crate::specs::Pointers::encoding_of))]
     pub fn of(number: u64) -> Option<PointerEncoding>
         ensures { result ≡ spec.encoding_of number }

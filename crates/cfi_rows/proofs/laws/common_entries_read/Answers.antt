@@ -1,5 +1,6 @@
 -- Each clause is a lemma on the definitions.
 use Rattle.cfi_rows.proofs.CommonLemmas.{common_reads, common_rows, plain_bytes, whole}
+use Rattle.cfi_rows.proofs.FormOfBytes.{only}
 use Rattle.cfi_rows.proofs.laws.common_entries_read.Goals as goal
 
 pub returns-clause-form : goal.returns-clause-form
@@ -13,3 +14,6 @@ returns-clause-plain c = plain_bytes
 
 pub returns-clause-whole : goal.returns-clause-whole
 returns-clause-whole c = whole
+
+pub returns-clause-only : goal.returns-clause-only
+returns-clause-only c = only
