@@ -1,6 +1,6 @@
 -- Sections are found by their names and groups.
-use Rattle.std.proofs.Common.{◌≡◌, ℕ, zero, suc, ◌+◌, ◌<◌, ◌≤◌, ◌&&◌, ◌||◌, Bool, true, false, not, cond, List, [], ◌∷◌, ◌++◌, Option, None, Some, option_map, find, is_some, is_none, IfSome, length, map, drop, refl, sym, ap, ◌∙◌, subst, arith, get_or, slice_get, All, length-append, set, length-set, add-one}
-use Rattle.std.specs.List.{fold, list_any, position, position_from}
+use Rattle.std.proofs.Common.{◌≡◌, ℕ, zero, suc, ◌+◌, ◌<◌, ◌≤◌, ◌&&◌, ◌||◌, Bool, true, false, cond, List, [], ◌∷◌, ◌++◌, Option, None, Some, option_map, find, is_some, is_none, IfSome, length, map, refl, sym, ap, ◌∙◌, subst, arith, get_or, slice_get, All, length-append, set}
+use Rattle.std.specs.List.{list_any, position, position_from}
 use Rattle.std.specs.Map.{lookup, keys_of}
 use Rattle.indexmap.specs.IndexMap.{insert_entry}
 use Rattle.std.specs.Str.{bytes_eq}
@@ -13,9 +13,9 @@ use Rattle.std.proofs.Math.Seq.{map-set_same}
 use Rattle.std.proofs.lemmas.List.Elements.{All-append}
 use Rattle.asm_frags.specs.declared.groups.Group.{Group}
 use Rattle.asm_frags.specs.declared.section_keys.MemberKey.{MemberKey}
-use Rattle.asm_frags.specs.Groups.{has_signature, new_groups, with_group, groups_among, groups_of, counted, is_in, is_member_named, member_number, is_otherwise, was_otherwise, is_told_otherwise, says_group, IsFlagged}
+use Rattle.asm_frags.specs.Groups.{has_signature, new_groups, with_group, groups_among, groups_of, counted, is_in, is_member_named, member_number, is_otherwise, was_otherwise, IsFlagged}
 use Rattle.asm_frags.specs.SectionOf.{SectionOf, is_section_named, section_number}
-use Rattle.asm_frags.specs.Sound.{Heading, heading_of, MemberName, bare_number, bare_numbers, member_number_of, member_numbers, plain_names, plain_members, plain_groups, IsHeading, AreNamed}
+use Rattle.asm_frags.specs.Sound.{Heading, heading_of, bare_number, bare_numbers, member_number_of, member_numbers, plain_names, plain_groups, IsHeading, AreNamed}
 
 -- LOOK-UPS
 
@@ -66,10 +66,10 @@ abbrev is_named_in : List ℕ → List ℕ → Heading → Bool
 is_named_in signature name one = is_in signature one.group && bytes_eq name one.name
 
 -- the name of a section in a group is this one
-abbrev is_this : List ℕ → List ℕ → MemberName → Bool
+abbrev is_this : List ℕ → List ℕ → MemberKey → Bool
 is_this signature name member = bytes_eq signature member.signature && bytes_eq name member.name
 
-member_step : (signature name own : List ℕ) (i : ℕ) (group : Option Group) (rest : List (MemberName × ℕ)) (later : Option ℕ) → lookup (is_this signature name) rest ≡ later
+member_step : (signature name own : List ℕ) (i : ℕ) (group : Option Group) (rest : List (MemberKey × ℕ)) (later : Option ℕ) → lookup (is_this signature name) rest ≡ later
     → lookup (is_this signature name) (member_number_of i own group rest) ≡ cond (is_in signature group && bytes_eq name own) (Some i) later
 member_step signature name own i None rest later same = same
 member_step signature name own i (Some group) rest later same = ap (cond (bytes_eq signature group.signature && bytes_eq name own) (Some i)) same
@@ -88,7 +88,7 @@ unfolding plain_groups
 plain_long groups = length-map groups _
 
 module _ {Item : Type 0} (names : List (Vec ℕ × ℕ)) (members : List (MemberKey × ℕ)) (groups : List (Vec ℕ × Bool)) (sections : List (SectionOf Item))
-    (sound : AreNamed (plain_names names) (plain_members members) (plain_groups groups) (map heading_of sections)) where
+    (sound : AreNamed (plain_names names) members (plain_groups groups) (map heading_of sections)) where
   pub number_same : (name : List ℕ) → lookup (λ (key : Vec ℕ). bytes_eq name key.items) names ≡ section_number name sections
   unfolding plain_names
   number_same name =
@@ -96,11 +96,9 @@ module _ {Item : Type 0} (names : List (Vec ℕ × ℕ)) (members : List (Member
       ∙ position_from-map (is_bare name) heading_of 0 sections ∙ sym (position_from-zero (is_section_named name) sections)
 
   pub member_same : (signature name : List ℕ)
-      → lookup (λ (key : MemberKey). bytes_eq signature key.signature.items && bytes_eq name key.name.items) members ≡ member_number signature name sections
-  unfolding plain_members
+      → lookup (λ (key : MemberKey). bytes_eq signature key.signature && bytes_eq name key.name) members ≡ member_number signature name sections
   member_same signature name =
-      sym (lookup-map (λ (key : MemberKey). record { signature = key.signature.items; name = key.name.items }) (is_this signature name) members)
-      ∙ ap (lookup (is_this signature name)) sound.members ∙ member_found signature name 0 (map heading_of sections)
+      ap (lookup (is_this signature name)) sound.members ∙ member_found signature name 0 (map heading_of sections)
       ∙ position_from-map (is_named_in signature name) heading_of 0 sections ∙ sym (position_from-zero (is_member_named signature name) sections)
 
   pub groups_same : plain_groups groups ≡ groups_of sections
@@ -145,15 +143,15 @@ heading_at [] number d all within = absurd (omega arith)
 heading_at (section ∷ sections) zero d all within = all zero (heading_of section) (omega arith)
 heading_at (section ∷ sections) (suc number) d all within = heading_at sections number d (λ k e inside. all (suc k) e (omega arith)) (omega arith)
 
-pub short_at : {Item : Type 0} (names : List (List ℕ × ℕ)) (members : List (MemberName × ℕ)) (groups : List Group) (sections : List (SectionOf Item)) (number : ℕ) (d : SectionOf Item)
+pub short_at : {Item : Type 0} (names : List (List ℕ × ℕ)) (members : List (MemberKey × ℕ)) (groups : List Group) (sections : List (SectionOf Item)) (number : ℕ) (d : SectionOf Item)
     → AreNamed names members groups (map heading_of sections) → number < length sections → length (get_or sections number d).name ≤ 65536
 short_at names members groups sections number d sound within = (heading_at sections number d sound.all within).short
 
-pub flagged_at : {Item : Type 0} (names : List (List ℕ × ℕ)) (members : List (MemberName × ℕ)) (groups : List Group) (sections : List (SectionOf Item)) (number : ℕ) (d : SectionOf Item)
+pub flagged_at : {Item : Type 0} (names : List (List ℕ × ℕ)) (members : List (MemberKey × ℕ)) (groups : List Group) (sections : List (SectionOf Item)) (number : ℕ) (d : SectionOf Item)
     → AreNamed names members groups (map heading_of sections) → number < length sections → IsFlagged (get_or sections number d)
 flagged_at names members groups sections number d sound within = (heading_at sections number d sound.all within).flagged
 
-pub all_flagged : {Item : Type 0} (names : List (List ℕ × ℕ)) (members : List (MemberName × ℕ)) (groups : List Group) (sections : List (SectionOf Item))
+pub all_flagged : {Item : Type 0} (names : List (List ℕ × ℕ)) (members : List (MemberKey × ℕ)) (groups : List Group) (sections : List (SectionOf Item))
     → AreNamed names members groups (map heading_of sections) → All IsFlagged sections
 all_flagged names members groups sections sound number d within = flagged_at names members groups sections number d sound within
 
@@ -177,7 +175,7 @@ look_up_group signature (e ∷ groups) = by_test (bytes_eq signature e.0.items) 
     by_test false here one later rest same = same
 
 module _ {Item : Type 0} (names : List (Vec ℕ × ℕ)) (members : List (MemberKey × ℕ)) (groups : List (Vec ℕ × Bool)) (sections : List (SectionOf Item))
-    (sound : AreNamed (plain_names names) (plain_members members) (plain_groups groups) (map heading_of sections)) where
+    (sound : AreNamed (plain_names names) members (plain_groups groups) (map heading_of sections)) where
   pub group_place : (signature : List ℕ) → position (λ (key : Vec ℕ). bytes_eq signature key.items) (keys_of groups) ≡ position (has_signature signature) (groups_of sections)
   group_place signature =
       position_from-zero (λ (key : Vec ℕ). bytes_eq signature key.items) (keys_of groups) ∙ from_keys signature 0 groups
@@ -213,10 +211,10 @@ entry_there (e ∷ groups) zero entry is =
 entry_there (e ∷ groups) (suc index) entry is = entry_there groups index entry is
 
 alike : (a b : Bool) → is_otherwise a b ≡ false → b ≡ a
-alike true true told = refl
-alike true false told = absurd cc
-alike false false told = refl
-alike false true told = absurd cc
+alike true true said = refl
+alike true false said = absurd cc
+alike false false said = refl
+alike false true said = absurd cc
 
 behind : (b : Bool) (first one : Group) (here : List Group) → first ∷ cond b here (here ++ one ∷ []) ≡ cond b (first ∷ here) ((first ∷ here) ++ one ∷ [])
 behind true first one here = refl
@@ -232,18 +230,18 @@ put_step : (key : Vec ℕ) (comdat : Bool) (e : Vec ℕ × Bool) (groups later :
     → plain_groups (cond b ((e.0, comdat) ∷ groups) (e ∷ later))
     ≡ cond (b || list_any (has_signature key.items) (plain_groups groups)) (group_in e.0 e.1 ∷ plain_groups groups) ((group_in e.0 e.1 ∷ plain_groups groups) ++ group_in key comdat ∷ [])
 unfolding plain_groups
-put_step key comdat e groups later true told rest = ap (λ c. group_in e.0 c ∷ plain_groups groups) (sym (alike comdat e.1 told))
-put_step key comdat e groups later false told rest =
-    ap (λ gs. group_in e.0 e.1 ∷ gs) (rest told) ∙ behind (list_any (has_signature key.items) (plain_groups groups)) (group_in e.0 e.1) (group_in key comdat) (plain_groups groups)
+put_step key comdat e groups later true said rest = ap (λ c. group_in e.0 c ∷ plain_groups groups) (sym (alike comdat e.1 said))
+put_step key comdat e groups later false said rest =
+    ap (λ gs. group_in e.0 e.1 ∷ gs) (rest said) ∙ behind (list_any (has_signature key.items) (plain_groups groups)) (group_in e.0 e.1) (group_in key comdat) (plain_groups groups)
 
 -- a group that is put in is there, or the last
 pub group_put : (eq : Vec ℕ → Vec ℕ → Bool) → ((a b : Vec ℕ) → eq a b ≡ bytes_eq a.items b.items) → (key : Vec ℕ) (comdat : Bool) (groups : List (Vec ℕ × Bool))
     → was_otherwise comdat (find (has_signature key.items) (plain_groups groups)) ≡ false
     → plain_groups (insert_entry eq groups key comdat) ≡ with_group (plain_groups groups) (Some (group_in key comdat))
 unfolding plain_groups
-group_put eq same key comdat [] told = refl
-group_put eq same key comdat (e ∷ groups) told =
-    rw (same key e.0) (put_step key comdat e groups (insert_entry eq groups key comdat) (bytes_eq key.items e.0.items) told (group_put eq same key comdat groups))
+group_put eq same key comdat [] said = refl
+group_put eq same key comdat (e ∷ groups) said =
+    rw (same key e.0) (put_step key comdat e groups (insert_entry eq groups key comdat) (bytes_eq key.items e.0.items) said (group_put eq same key comdat groups))
 
 -- A SECTION MORE
 
@@ -256,7 +254,7 @@ bare_more i n [] one is = let same : i ≡ n = omega (arith, is) in ap (λ m. ba
 bare_more i n (h ∷ headings) one is =
     ap (bare_number i h.name h.group) (bare_more (i + 1) n headings one (omega (arith, is))) ∙ bare_front i h.name h.group (bare_numbers (i + 1) headings) (bare_number n one.name one.group [])
 
-member_front : (i : ℕ) (own : List ℕ) (group : Option Group) (a b : List (MemberName × ℕ)) → member_number_of i own group (a ++ b) ≡ member_number_of i own group a ++ b
+member_front : (i : ℕ) (own : List ℕ) (group : Option Group) (a b : List (MemberKey × ℕ)) → member_number_of i own group (a ++ b) ≡ member_number_of i own group a ++ b
 member_front i own None a b = refl
 member_front i own (Some group) a b = refl
 
@@ -280,13 +278,13 @@ one_heading one is zero d within = is
 one_heading one is (suc k) d within = absurd (omega arith)
 
 -- a section more, of this heading
-pub named_more : (names more : List (List ℕ × ℕ)) (members others : List (MemberName × ℕ)) (groups all : List Group) (headings : List Heading) (one : Heading)
+pub named_more : (names more : List (List ℕ × ℕ)) (members others : List (MemberKey × ℕ)) (groups all : List Group) (headings : List Heading) (one : Heading)
     → AreNamed names members groups headings → more ≡ names ++ bare_number (length headings) one.name one.group []
     → others ≡ members ++ member_number_of (length headings) one.name one.group [] → all ≡ with_group groups one.group
     → length headings + length groups + new_groups groups one.group < 30003 → IsHeading one → AreNamed more others all (headings ++ one ∷ [])
 named_more names more members others groups all headings one sound named put seen few is = record {
   named = named ∙ ap (λ (ns : List (List ℕ × ℕ)). ns ++ bare_number (length headings) one.name one.group []) sound.named ∙ sym (bare_more 0 (length headings) headings one (omega arith));
-  members = put ∙ ap (λ (ms : List (MemberName × ℕ)). ms ++ member_number_of (length headings) one.name one.group []) sound.members ∙ sym (member_more 0 (length headings) headings one (omega arith));
+  members = put ∙ ap (λ (ms : List (MemberKey × ℕ)). ms ++ member_number_of (length headings) one.name one.group []) sound.members ∙ sym (member_more 0 (length headings) headings one (omega arith));
   seen = seen ∙ ap (λ (gs : List Group). with_group gs one.group) sound.seen
       ∙ sym (ap groups_among (map-append (λ (h : Heading). h.group) headings (one ∷ [])) ∙ fold-append with_group [] (map (λ (h : Heading). h.group) headings) (one.group ∷ []));
   few =
@@ -312,7 +310,7 @@ heading_more : {Item : Type 0} (sections all : List (SectionOf Item)) (section :
 heading_more sections all section last = ap (map heading_of) last ∙ map-append heading_of sections (section ∷ [])
 
 -- a section more that is in no group
-pub added : {Item : Type 0} (names more : List (Vec ℕ × ℕ)) (members : List (MemberName × ℕ)) (groups : List Group) (key : Vec ℕ) (number : ℕ) (sections all : List (SectionOf Item)) (section : SectionOf Item) (one : Heading)
+pub added : {Item : Type 0} (names more : List (Vec ℕ × ℕ)) (members : List (MemberKey × ℕ)) (groups : List Group) (key : Vec ℕ) (number : ℕ) (sections all : List (SectionOf Item)) (section : SectionOf Item) (one : Heading)
     → AreNamed (plain_names names) members groups (map heading_of sections) → heading_of section ≡ one → one.group ≡ None → more ≡ names ++ (key, number) ∷ [] → key.items ≡ one.name → number ≡ length sections
     → length sections + length groups < 30003 → IsHeading one → all ≡ sections ++ section ∷ [] → AreNamed (plain_names more) members groups (map heading_of all)
 unfolding plain_names
@@ -329,22 +327,19 @@ added names more members groups key number sections all section one sound headin
 -- a section more in a group
 pub added_member : {Item : Type 0} (names : List (List ℕ × ℕ)) (members more : List (MemberKey × ℕ)) (groups others : List (Vec ℕ × Bool)) (key : MemberKey) (number : ℕ) (sections all : List (SectionOf Item))
     (section : SectionOf Item) (one : Heading) (group : Group)
-    → AreNamed names (plain_members members) (plain_groups groups) (map heading_of sections) → heading_of section ≡ one → one.group ≡ Some group
-    → more ≡ members ++ (key, number) ∷ [] → key.signature.items ≡ group.signature → key.name.items ≡ one.name → number ≡ length sections
+    → AreNamed names members (plain_groups groups) (map heading_of sections) → heading_of section ≡ one → one.group ≡ Some group
+    → more ≡ members ++ (key, number) ∷ [] → key ≡ record { signature = group.signature; name = one.name } → number ≡ length sections
     → plain_groups others ≡ with_group (plain_groups groups) (Some group) → length sections + length groups + new_groups (plain_groups groups) (Some group) < 30003
-    → IsHeading one → all ≡ sections ++ section ∷ [] → AreNamed names (plain_members more) (plain_groups others) (map heading_of all)
-unfolding plain_members
-added_member names members more groups others key number sections all section one group sound heading in_group put signature name count seen few is last =
+    → IsHeading one → all ≡ sections ++ section ∷ [] → AreNamed names more (plain_groups others) (map heading_of all)
+added_member names members more groups others key number sections all section one group sound heading in_group put named count seen few is last =
     let long : length (map heading_of sections) ≡ length sections = length-map sections heading_of in
     let place : number ≡ length (map heading_of sections) = omega (arith, count, long) in
-    let entry : (record { signature = key.signature.items; name = key.name.items }, number) ∷ [] ≡ member_number_of (length (map heading_of sections)) one.name one.group [] =
-    rw (in_group, signature, name, place) refl in
-    let found : plain_members more ≡ plain_members members ++ member_number_of (length (map heading_of sections)) one.name one.group [] =
-    ap plain_members put ∙ map-append _ members ((key, number) ∷ []) ∙ ap (λ ms. plain_members members ++ ms) entry in
+    let entry : (key, number) ∷ [] ≡ member_number_of (length (map heading_of sections)) one.name one.group [] = rw (in_group, named, place) refl in
+    let found : more ≡ members ++ member_number_of (length (map heading_of sections)) one.name one.group [] = put ∙ ap (λ (ms : List (MemberKey × ℕ)). members ++ ms) entry in
     let many : length (plain_groups groups) ≡ length groups = plain_long groups in
     let less : length (map heading_of sections) + length (plain_groups groups) + new_groups (plain_groups groups) one.group < 30003 = rw in_group (omega (arith, long, many, few)) in
-    subst (AreNamed names (plain_members more) (plain_groups others)) (sym (heading_more sections all section last ∙ ap (λ (h : Heading). map heading_of sections ++ h ∷ []) heading))
-    (named_more names names (plain_members members) (plain_members more) (plain_groups groups) (plain_groups others) (map heading_of sections) one sound (rw in_group (sym (append-nil names))) found
+    subst (AreNamed names more (plain_groups others)) (sym (heading_more sections all section last ∙ ap (λ (h : Heading). map heading_of sections ++ h ∷ []) heading))
+    (named_more names names members more (plain_groups groups) (plain_groups others) (map heading_of sections) one sound (rw in_group (sym (append-nil names))) found
     (rw in_group seen) less is)
 
 -- a section in no group is counted alone
@@ -360,26 +355,10 @@ counted_bare sections all section last bare =
     let count = ap length last in
     omega (arith, long, same, count)
 
--- a search from one place on
-walk : {X : Type 0} (p : X → Bool) (xs : List X) (n i : ℕ) (d : X) → n < length xs → position_from p i (drop n xs) ≡ cond (p (get_or xs n d)) (Some i) (position_from p (i + 1) (drop (suc n) xs))
-walk p [] n i d inside = absurd (omega arith)
-walk p (x ∷ xs) zero i d inside = refl
-walk p (x ∷ xs) (suc n) i d inside = walk p xs n i d (omega arith)
-
-pub search_step : {X : Type 0} (p : X → Bool) (xs : List X) (n : ℕ) (x d : X) → n < length xs → x ≡ get_or xs n d → p x ≡ false
-    → position_from p (n + 1) (drop (n + 1) xs) ≡ position_from p n (drop n xs)
-search_step p xs n x d inside there other =
-    ap (λ k. position_from p (n + 1) (drop k xs)) (add-one n)
-    ∙ sym (walk p xs n n d inside ∙ ap (λ b. cond b (Some n) (position_from p (n + 1) (drop (suc n) xs))) (sym (ap p there) ∙ other))
-
-pub search_end : {X : Type 0} (p : X → Bool) (xs : List X) (n : ℕ) (x d : X) → n < length xs → x ≡ get_or xs n d → p x ≡ true → position_from p n (drop n xs) ≡ Some n
-search_end p xs n x d inside there this =
-    walk p xs n n d inside ∙ ap (λ b. cond b (Some n) (position_from p (n + 1) (drop (suc n) xs))) (sym (ap p there) ∙ this)
-
 -- ANOTHER SECTION IN THE PLACE OF ONE
 
 -- another section of the same name, flags and group in the place of one
-pub replaced_there : {Item : Type 0} (names : List (List ℕ × ℕ)) (members : List (MemberName × ℕ)) (groups : List Group) (sections : List (SectionOf Item)) (number : ℕ) (section d : SectionOf Item)
+pub replaced_there : {Item : Type 0} (names : List (List ℕ × ℕ)) (members : List (MemberKey × ℕ)) (groups : List Group) (sections : List (SectionOf Item)) (number : ℕ) (section d : SectionOf Item)
     → AreNamed names members groups (map heading_of sections) → heading_of section ≡ heading_of (get_or sections number d)
     → AreNamed names members groups (map heading_of (set sections number section))
 replaced_there names members groups sections number section d sound same =
@@ -390,6 +369,6 @@ nothing_named : AreNamed [] [] [] []
 nothing_named = record { named = refl; members = refl; seen = refl; few = omega arith; all = λ k d within. absurd (omega arith) }
 
 pub none_named : {Item : Type 0} (names : List (Vec ℕ × ℕ)) (members : List (MemberKey × ℕ)) (groups : List (Vec ℕ × Bool)) (sections : List (SectionOf Item))
-    → names ≡ [] → members ≡ [] → groups ≡ [] → sections ≡ [] → AreNamed (plain_names names) (plain_members members) (plain_groups groups) (map heading_of sections)
-unfolding plain_names plain_members plain_groups
+    → names ≡ [] → members ≡ [] → groups ≡ [] → sections ≡ [] → AreNamed (plain_names names) members (plain_groups groups) (map heading_of sections)
+unfolding plain_names plain_groups
 none_named names members groups sections bare others none empty = rw (bare, others, none, empty) nothing_named

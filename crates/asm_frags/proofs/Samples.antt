@@ -120,9 +120,9 @@ in_group_again : entered_in grouped (codes ".text") (section_flags 518) 1 0 (Som
 unfolding first first_sections grouped groups_of
 in_group_again = refl
 
-told_otherwise : entered_in grouped (codes ".data") (section_flags 515) 1 0 (Some (codes "f", false)) ≡ Err BadSection
+said_otherwise : entered_in grouped (codes ".data") (section_flags 515) 1 0 (Some (codes "f", false)) ≡ Err BadSection
 unfolding first first_sections grouped groups_of
-told_otherwise = refl
+said_otherwise = refl
 
 in_other_group : entered_in grouped (codes ".text") (section_flags 518) 1 0 (Some (codes "g", true))
     ≡ Ok (4, grouped ++ new_member (record { signature = codes "g"; comdat = true }) (codes ".text") (section_flags 518) 1 0 ∷ [])

@@ -14,7 +14,8 @@ use Rattle.asm_frags.specs.PlainBytes.{field_end, FieldsStand, AreBytes}
 use Rattle.asm_frags.specs.Alignments.{alignment_of_all}
 use Rattle.asm_frags.specs.KnownExtents.{advanced, extent_of}
 use Rattle.asm_frags.specs.declared.groups.Group.{Group}
-use Rattle.asm_frags.specs.Sound.{AreNamed, MemberName, heading_of}
+use Rattle.asm_frags.specs.declared.section_keys.MemberKey.{MemberKey}
+use Rattle.asm_frags.specs.Sound.{AreNamed, heading_of}
 use Rattle.asm_frags.specs.Writing.{LooseItem, LooseSection, ends_in_run}
 use Rattle.asm_frags.specs.SoundItems.{AreItems, AreBehind}
 use Rattle.asm_frags.specs.Substituting.{substituted_field, laid_item, laid_section}
@@ -95,6 +96,6 @@ module _ (substitute : Form → Form) where
   headings-substituted sections = map-map heading_of (laid_section substitute) sections
 
   -- the sections keep their headings
-  pub named_substituted : (names : List (List ℕ × ℕ)) (members : List (MemberName × ℕ)) (groups : List Group) (sections : List LooseSection) (all : List _)
+  pub named_substituted : (names : List (List ℕ × ℕ)) (members : List (MemberKey × ℕ)) (groups : List Group) (sections : List LooseSection) (all : List _)
       → AreNamed names members groups (map heading_of sections) → all ≡ map (laid_section substitute) sections → AreNamed names members groups (map heading_of all)
   named_substituted names members groups sections all sound is = rw is (subst (AreNamed names members groups) (sym (headings-substituted sections)) sound)

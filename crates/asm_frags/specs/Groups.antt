@@ -1,5 +1,5 @@
 -- Groups of sections (gABI, chapter 4, "Section Groups").
-use Rattle.std.specs.Prelude.{◌≡◌, ℕ, ◌+◌, ◌==◌, ◌&&◌, not, bit_and, Bool, true, false, List, [], ◌∷◌, ◌++◌, length, map, Option, None, Some, is_some, find, position, if◌then◌else◌}
+use Rattle.std.specs.Prelude.{◌≡◌, ℕ, ◌+◌, ◌^◌, ◌≤◌, ◌==◌, ◌&&◌, not, bit_and, Bool, true, false, List, [], ◌∷◌, ◌++◌, length, map, Option, None, Some, is_some, find, position, if◌then◌else◌}
 use Rattle.std.specs.List.{fold, list_any}
 use Rattle.std.specs.Str.{bytes_eq}
 use Rattle.asm_frags.specs.declared.flags.SectionFlags.{SectionFlags}
@@ -9,6 +9,10 @@ use Rattle.asm_frags.specs.SectionOf.{SectionOf}
 -- the group has this signature: groups of one signature are one group
 abbrev pub has_signature : List ℕ → Group → Bool
 has_signature signature group = bytes_eq signature group.signature
+
+-- the signature of the group has at most 2^16 bytes
+abbrev pub HasShortSignature : Group → Type 0
+HasShortSignature group = length group.signature ≤ 2 ^ 16
 
 -- how many groups more there are with this one
 abbrev pub new_groups : List Group → Option Group → ℕ
@@ -56,8 +60,8 @@ was_otherwise comdat None = false
 was_otherwise comdat (Some seen) = is_otherwise comdat seen.comdat
 
 -- the same, where the group was seen if one of the sections is in it
-abbrev pub is_told_otherwise : {Item : Type 0} → Group → List (SectionOf Item) → Bool
-is_told_otherwise group sections = was_otherwise group.comdat (find (has_signature group.signature) (groups_of sections))
+abbrev pub is_said_otherwise : {Item : Type 0} → Group → List (SectionOf Item) → Bool
+is_said_otherwise group sections = was_otherwise group.comdat (find (has_signature group.signature) (groups_of sections))
 
 -- SHF_GROUP: the section is in a group
 abbrev pub group_flag : ℕ

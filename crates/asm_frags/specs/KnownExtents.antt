@@ -1,5 +1,5 @@
 -- The known extent of a section: how many items it has of several possible sizes, and the bytes of all others.
-use Rattle.std.specs.Prelude.{ℕ, ◌+◌, List, if◌then◌else◌}
+use Rattle.std.specs.Prelude.{◌+◌, List, if◌then◌else◌}
 use Rattle.std.specs.List.{fold}
 use Rattle.item_contents.specs.FixedSizes.{is_fixed, fixed_bytes}
 use Rattle.asm_frags.specs.declared.items.Frag.{Frag}

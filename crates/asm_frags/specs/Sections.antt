@@ -7,7 +7,7 @@ use Rattle.asm_base.specs.declared.causes.FragCause.TheVariants.{BadSection}
 use Rattle.asm_frags.specs.declared.flags.SectionFlags.{SectionFlags}
 use Rattle.asm_frags.specs.declared.groups.Group.{Group}
 use Rattle.asm_frags.specs.SectionOf.{SectionOf, new_section, is_alike, section_number}
-use Rattle.asm_frags.specs.Groups.{groups_of, counted, new_groups, is_told_otherwise, member_number}
+use Rattle.asm_frags.specs.Groups.{groups_of, counted, new_groups, is_said_otherwise, member_number}
 
 -- the flags with these bits
 abbrev pub section_flags : ℕ → SectionFlags
@@ -50,7 +50,7 @@ new_member group name flags kind entry_size = record (new_section name flags kin
 -- the number of the section of this name in a group, and the sections with it, or the fault: a group is always of one word on what a linker keeps
 abbrev pub entered_member : {Item : Type 0} → List (SectionOf Item) → List ℕ → SectionFlags → ℕ → ℕ → Group → Result (ℕ × List (SectionOf Item)) FragCause
 entered_member sections name flags kind entry_size group =
-    if is_told_otherwise group sections then Err BadSection
+    if is_said_otherwise group sections then Err BadSection
     else entered_or_new sections (member_number group.signature name sections) (new_member group name flags kind entry_size)
 
 -- the number of the section of this name, in the group of this signature, which may be one of which a linker keeps one alone, or in none

@@ -17,11 +17,6 @@ pub record Heading : Type 0 where
 abbrev pub heading_of : {Item : Type 0} → SectionOf Item → Heading
 heading_of section = record { name = section.name; flags = section.flags; group = section.group }
 
--- the name of a section in a group, by the group's signature
-pub record MemberName : Type 0 where
-  pub signature : List ℕ
-  pub name : List ℕ
-
 -- the name of a section that is in no group, with its number
 abbrev pub bare_number : ℕ → List ℕ → Option Group → List (List ℕ × ℕ) → List (List ℕ × ℕ)
 bare_number number name None others = (name, number) ∷ others
@@ -33,22 +28,18 @@ bare_numbers number [] = []
 bare_numbers number (one ∷ headings) = bare_number number one.name one.group (bare_numbers (number + 1) headings)
 
 -- the name of a section that is in a group, with its number
-abbrev pub member_number_of : ℕ → List ℕ → Option Group → List (MemberName × ℕ) → List (MemberName × ℕ)
+abbrev pub member_number_of : ℕ → List ℕ → Option Group → List (MemberKey × ℕ) → List (MemberKey × ℕ)
 member_number_of number name None others = others
 member_number_of number name (Some group) others = (record { signature = group.signature; name = name }, number) ∷ others
 
 -- the names of those that are in groups, each with its number; the first section has this one
-abbrev pub member_numbers : ℕ → List Heading → List (MemberName × ℕ)
+abbrev pub member_numbers : ℕ → List Heading → List (MemberKey × ℕ)
 member_numbers number [] = []
 member_numbers number (one ∷ headings) = member_number_of number one.name one.group (member_numbers (number + 1) headings)
 
 -- the numbers of names, with the names as lists of bytes
 unfoldable pub plain_names : List (Vec ℕ × ℕ) → List (List ℕ × ℕ)
 plain_names entries = map (λ entry. (entry.0.items, entry.1)) entries
-
--- the numbers of names in groups, likewise
-unfoldable pub plain_members : List (MemberKey × ℕ) → List (MemberName × ℕ)
-plain_members entries = map (λ entry. (record { signature = entry.0.signature.items; name = entry.0.name.items }, entry.1)) entries
 
 -- the groups, with the signatures as lists of bytes
 unfoldable pub plain_groups : List (Vec ℕ × Bool) → List Group
@@ -60,7 +51,7 @@ pub record IsHeading (one : Heading) : Type 0 where
   pub short : length one.name ≤ 2 ^ 16
 
 -- each section has the number of its name among those in no group, or in its group; there are at most 30,003 sections and groups
-pub record AreNamed (names : List (List ℕ × ℕ)) (grouped : List (MemberName × ℕ)) (groups : List Group) (headings : List Heading) : Type 0 where
+pub record AreNamed (names : List (List ℕ × ℕ)) (grouped : List (MemberKey × ℕ)) (groups : List Group) (headings : List Heading) : Type 0 where
   pub named : names ≡ bare_numbers 0 headings
   pub members : grouped ≡ member_numbers 0 headings
   pub seen : groups ≡ groups_among (map (λ one. one.group) headings)

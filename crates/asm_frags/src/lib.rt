@@ -1,6 +1,7 @@
 //! Sections and their items, before and after they have addresses and sizes.
 #![tactic(auto)]
 
+mod entering;
 mod faults;
 mod fields;
 mod flags;

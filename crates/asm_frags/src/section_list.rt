@@ -1,15 +1,13 @@
 //! The sections of a source in the order in which they are first seen.
 
-ghost use Rattle.std.specs.Prelude.{◌≡◌, ◌==◌, ◌+◌, ◌≤◌, ◌<◌, ◌^◌, [], ◌∷◌, ◌++◌, length, nat_lt, position, option_map, true, false, All, map, slice_get, Some, IfOk, IfErr, IfSome, OnOk, is_some};
+ghost use Rattle.std.specs.Prelude.{◌≡◌, ◌==◌, ◌+◌, ◌≤◌, ◌<◌, ◌^◌, [], ◌∷◌, ◌++◌, length, position, false, All, map, slice_get, Some, IfOk, IfErr, IfSome, OnOk, is_some};
 ghost use Rattle.std.specs.List.{list_any};
-ghost use Rattle.asm_frags.specs.Groups.{is_otherwise};
 ghost use Rattle.asm_frags.specs.Substituting.{laid_section};
 ghost use Rattle.asm_base.specs.declared.refusals.Refusal.TheVariants.{NoMemory};
 
-use crate::faults::{FragCause, FragFault};
+use crate::faults::FragFault;
 use crate::fields::FieldSize;
 use crate::flags::{SHT_NOBITS, SHT_PROGBITS, SectionFlags};
-use crate::groups::Group;
 use crate::items::Frag;
 use crate::parts::Section;
 use crate::phases::{Laid, Loose, Phase};
@@ -21,46 +19,35 @@ use asm_expr::Linear;
 use bitflags::Flags;
 use indexmap::IndexMap;
 use item_contents::Growth;
-use std::alloc::{AllocError, Global};
+use std::alloc::Global;
 use std::marker::Model;
 use x86_insn::Suffix;
-
-/// The most sections and groups: 30,000 that a source makes, and the three sections that are there from
-/// the beginning.
-const MOST_SECTIONS: usize = 30_003;
-
-/// Whether one of these is said and the other is not.
-fn is_otherwise(one: bool, other: bool) -> bool
-    ensures { result ≡ is_otherwise one other }
-{
-    one != other
-}
 
 /// The sections of a source, each with its number, and the groups that they are in.
 #[derive(Drop)]
 pub struct Sections<P: Phase = Loose> {
-    alloc: Global,
+    pub(crate) alloc: Global,
     /// The numbers of those in no group.
-    names: IndexMap<Vec<u8>, u32>,
+    pub(crate) names: IndexMap<Vec<u8>, u32>,
     /// The numbers of those in groups.
-    members: IndexMap<MemberKey, u32>,
+    pub(crate) members: IndexMap<MemberKey, u32>,
     /// The groups in first-seen order, by their signatures: whether a linker keeps one alone.
-    groups: IndexMap<Vec<u8>, bool>,
-    sections: Vec<Section<P>>,
+    pub(crate) groups: IndexMap<Vec<u8>, bool>,
+    pub(crate) sections: Vec<Section<P>>,
 }
 
 impl<P: Phase> Model for Sections<P> {
     ghost use Rattle.std.specs.Prelude.{List, map};
     ghost use Rattle.asm_frags.specs.declared.items.Frag.{Frag};
     ghost use Rattle.asm_frags.specs.SectionOf.{SectionOf};
-    ghost use Rattle.asm_frags.specs.Sound.{AreNamed, heading_of, plain_groups, plain_members, plain_names};
+    ghost use Rattle.asm_frags.specs.Sound.{AreNamed, heading_of, plain_groups, plain_names};
 
     ghost Value = { List (SectionOf (Frag P P.Address)) };
 
     ghost view = { λ inside. inside.sections.items };
 
     ghost invariant = { λ inside. AreNamed (plain_names inside.names.entries)
-        (plain_members inside.members.entries) (plain_groups inside.groups.entries)
+        inside.members.entries (plain_groups inside.groups.entries)
         (map heading_of inside.sections.items) };
 }
 
@@ -148,9 +135,9 @@ impl<P: Phase> Sections<P> {
 }
 
 impl Sections<Loose> {
-    ghost use Rattle.asm_frags.specs.Groups.{counted, groups_of, has_signature, is_member_named, is_told_otherwise, member_number, new_groups, says_group};
-    ghost use Rattle.asm_frags.specs.Sections.{first_sections, entered, entered_in, entered_member, Enters, put_into, new_last, new_member};
-    ghost use Rattle.asm_frags.specs.SectionOf.{new_section, is_section_named, section_number};
+    ghost use Rattle.asm_frags.specs.Groups.{counted, says_group};
+    ghost use Rattle.asm_frags.specs.Sections.{first_sections, put_into};
+    ghost use Rattle.asm_frags.specs.SectionOf.{new_section, is_section_named};
     ghost use Rattle.asm_frags.specs.Answers.{Changes};
     ghost use Rattle.asm_frags.specs.Writing.{item_put, bytes_put, field_put, growing_put};
 
@@ -191,224 +178,6 @@ impl Sections<Loose> {
         sections.begin(b".data", written, SHT_PROGBITS)?;
         sections.begin(b".bss", written, SHT_NOBITS)?;
         Ok(sections)
-    }
-
-    /// Whether there is room for a section more, and for so many groups.
-    fn has_room(&self, groups: usize) -> bool
-        requires { groups ≤ 1 }
-        ensures { result ≡ nat_lt (counted self.now + groups) 30003 }
-    {
-        self.sections.len() + self.groups.len() + groups < MOST_SECTIONS
-    }
-
-    /// Adds a section in no group whose name is new, and gives its number.
-    fn add(
-        &mut self,
-        name: Text,
-        flags: SectionFlags,
-        kind: u32,
-        entry_size: u64,
-    ) -> Result<u32, FragFault>
-        requires new { list_any (is_section_named name) self.old ≡ false }
-        requires short { length name ≤ 2 ^ 16 }
-        requires bare { says_group flags ≡ false }
-        ensures { Enters self.old self.new result
-            (new_last self.old (new_section name flags kind entry_size)) }
-    {
-        if !self.has_room(0) {
-            return Err(FragFault::Fault(FragCause::BadSection));
-        }
-        let number = self.sections.len() as u32;
-        let key = Vec::from_slice(self.alloc, name.as_bytes())?;
-        self.sections.reserve(1)?;
-        self.names.insert(key, number)?;
-        // `reserve` made room for it.
-        self.sections
-            .push(Section::new(self.alloc, name, flags, kind, entry_size, None))
-            .unwrap();
-        Ok(number)
-    }
-
-    /// The name of a section in the group.
-    fn member_key(&self, group: &Group, name: &Text) -> Result<MemberKey, AllocError>
-        ensures signature { IfOk result (λ key. key.signature.items ≡ group.now.signature) }
-        ensures name { IfOk result (λ key. key.name.items ≡ name.now) }
-    {
-        Ok(MemberKey {
-            signature: Vec::from_slice(self.alloc, group.signature.as_bytes())?,
-            name: Vec::from_slice(self.alloc, name.as_bytes())?,
-        })
-    }
-
-    /// The number of the section of this name in the group of this signature, by looking at all sections.
-    fn look_through(&self, signature: &[u8], name: &[u8]) -> Option<u32>
-        ensures { result ≡ member_number signature.now name.now self.now }
-    {
-        for (number, section) in self.sections.iter().enumerate() {
-            if section.is_member_named(signature, name) {
-                return Some(number as u32);
-            }
-        }
-        None
-    }
-
-    /// The number of the section of this name in the group. Where there was no memory for the key, all
-    /// sections are looked at, so that a fault that is due comes first.
-    fn find_member(
-        &self,
-        key: &Result<MemberKey, AllocError>,
-        group: &Group,
-        name: &Text,
-    ) -> Option<u32>
-        requires signature { IfOk key.now (λ key. key.signature.items ≡ group.now.signature) }
-        requires name { IfOk key.now (λ key. key.name.items ≡ name.now) }
-        ensures number { result ≡ member_number group.now.signature name.now self.now }
-        ensures within { IfSome result (λ number. number < length self.now) }
-        ensures presence { is_some result
-            ≡ list_any (is_member_named group.now.signature name.now) self.now }
-    {
-        match key {
-            Ok(key) => self.members.get(key).copied(),
-            Err(_) => self.look_through(group.signature.as_bytes(), name.as_bytes()),
-        }
-    }
-
-    /// Whether the group was seen before with the other word on what a linker keeps.
-    fn is_told_otherwise(&self, group: &Group) -> bool
-        ensures { result ≡ is_told_otherwise group.now self.now }
-    {
-        match self.groups.get(group.signature.as_bytes()) {
-            Some(comdat) => is_otherwise(group.comdat, *comdat),
-            None => false,
-        }
-    }
-
-    /// How many groups more there are with this one.
-    fn new_groups(&self, group: &Group) -> usize
-        ensures value { result ≡ new_groups (groups_of self.now) (Some group.now) }
-        ensures within { result ≤ 1 }
-    {
-        if self.has_group(group.signature.as_bytes()) {
-            0
-        } else {
-            1
-        }
-    }
-
-    /// Adds a section whose name is new in its group, and gives its number.
-    fn add_member(
-        &mut self,
-        key: Result<MemberKey, AllocError>,
-        name: Text,
-        flags: SectionFlags,
-        kind: u32,
-        entry_size: u64,
-        group: Group,
-    ) -> Result<u32, FragFault>
-        requires signature { IfOk key (λ key. key.signature.items ≡ group.signature) }
-        requires name { IfOk key (λ key. key.name.items ≡ name) }
-        requires new { list_any (is_member_named group.signature name) self.old ≡ false }
-        requires same { is_told_otherwise group self.old ≡ false }
-        requires short { length name ≤ 2 ^ 16 }
-        requires flagged { says_group flags ≡ true }
-        ensures { Enters self.old self.new result
-            (new_last self.old (new_member group name flags kind entry_size)) }
-    {
-        if !self.has_room(self.new_groups(&group)) {
-            return Err(FragFault::Fault(FragCause::BadSection));
-        }
-        let number = self.sections.len() as u32;
-        let key = key?;
-        let signature = Vec::from_slice(self.alloc, group.signature.as_bytes())?;
-        self.sections.reserve(1)?;
-        self.members.reserve(1)?;
-        self.groups.insert(signature, group.comdat)?;
-        // `reserve` made room for both.
-        self.members.insert(key, number).unwrap();
-        self.sections
-            .push(Section::new(self.alloc, name, flags, kind, entry_size, Some(group)))
-            .unwrap();
-        Ok(number)
-    }
-
-    /// The number of the section of this name that is in no group, which is added where there is none.
-    fn enter_bare(
-        &mut self,
-        name: Text,
-        flags: SectionFlags,
-        kind: u32,
-        entry_size: u64,
-    ) -> Result<u32, FragFault>
-        requires short { length name ≤ 2 ^ 16 }
-        requires bare { says_group flags ≡ false }
-        ensures { Enters self.old self.new result (entered self.old name flags kind entry_size) }
-    {
-        match self.find(name.as_bytes()) {
-            Some(number) => {
-                if self.section(number).is_alike(flags, kind, entry_size) {
-                    Ok(number)
-                } else {
-                    Err(FragFault::Fault(FragCause::BadSection))
-                }
-            }
-            None => self.add(name, flags, kind, entry_size),
-        }
-    }
-
-    /// The number of the section of this name in the group, which is added where there is none.
-    fn enter_member(
-        &mut self,
-        name: Text,
-        flags: SectionFlags,
-        kind: u32,
-        entry_size: u64,
-        group: Group,
-    ) -> Result<u32, FragFault>
-        requires short { length name ≤ 2 ^ 16 }
-        requires flagged { says_group flags ≡ true }
-        ensures { Enters self.old self.new result
-            (entered_member self.old name flags kind entry_size group) }
-    {
-        if self.is_told_otherwise(&group) {
-            return Err(FragFault::Fault(FragCause::BadSection));
-        }
-        let key = self.member_key(&group, &name);
-        match self.find_member(&key, &group, &name) {
-            Some(number) => {
-                if self.section(number).is_alike(flags, kind, entry_size) {
-                    Ok(number)
-                } else {
-                    Err(FragFault::Fault(FragCause::BadSection))
-                }
-            }
-            None => self.add_member(key, name, flags, kind, entry_size, group),
-        }
-    }
-
-    /// The number of the section of this name, in the group of the given signature or in none, which is
-    /// added where there is none. `BadSection` comes exactly where the section has other flags, another
-    /// type or another entry size, where the group was seen before with the other word on what a linker
-    /// keeps, or where there would be more than 30,003 sections and groups.
-    pub fn enter(
-        &mut self,
-        name: Text,
-        flags: SectionFlags,
-        kind: u32,
-        entry_size: u64,
-        group: Option<(Text, bool)>,
-    ) -> Result<u32, FragFault>
-        requires short { length name ≤ 2 ^ 16 }
-        requires flagged { says_group flags ≡ is_some group }
-        ensures { Enters self.old self.new result
-            (entered_in self.old name flags kind entry_size group) }
-    {
-        match group {
-            None => self.enter_bare(name, flags, kind, entry_size),
-            Some((signature, comdat)) => {
-                let group = Group { signature, comdat };
-                self.enter_member(name, flags, kind, entry_size, group)
-            }
-        }
     }
 
     /// Puts an item last in the section of this number. `BadSection` comes exactly where the section has the type

@@ -10,7 +10,7 @@ use Rattle.asm_lines.specs.NextStatements.{TokenStatement}
 use Rattle.asm_symbols.specs.Interning.{names_size}
 use Rattle.asm_symbols.specs.SymbolMap.{SymbolMap}
 use Rattle.asm_frags.specs.declared.groups.Group.{Group}
-use Rattle.asm_frags.specs.Groups.{groups_among, groups_of}
+use Rattle.asm_frags.specs.Groups.{HasShortSignature, groups_among, groups_of}
 use Rattle.asm_frags.specs.SectionOf.{SectionOf}
 use Rattle.asm_frags.specs.Substituting.{laid_section, laid_sections}
 use Rattle.asm_frags.specs.Writing.{LooseSection}
@@ -26,7 +26,7 @@ use Rattle.line_table.specs.Placing as line_table_placing
 use Rattle.elf_object.specs.Limits.{NumbersFit}
 use Rattle.object_laws.specs.GroupReading.{GroupsRead, AreGroupHeaders, GroupsStand}
 use Rattle.object_laws.specs.SectionPlaces.{SourceSectionsFound}
-use Rattle.object_laws.specs.SmallSources.{HasShortSignature, IsSmallSource, ObjectsFit}
+use Rattle.object_laws.specs.SmallSources.{IsSmallSource, ObjectsFit}
 use Rattle.asm_place.specs.SourceSizes.{IsSmall}
 use Rattle.asm_place.specs.Sources.{place_all}
 use Rattle.asm_place.specs.declared.place_faults.FaultAt.{FaultAt}

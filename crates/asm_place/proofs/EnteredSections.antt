@@ -10,13 +10,13 @@ use Rattle.asm_base.specs.declared.causes.FragCause.TheVariants as frag
 use Rattle.asm_operands.specs.declared.place_faults.PlaceCause.TheVariants.{BadSection}
 use Rattle.asm_frags.specs.declared.flags.SectionFlags.{SectionFlags}
 use Rattle.asm_frags.specs.declared.groups.Group.{Group}
-use Rattle.asm_frags.specs.Groups.{has_signature, new_groups, with_group, groups_among, groups_of, counted, is_told_otherwise, member_number}
+use Rattle.asm_frags.specs.Groups.{HasShortSignature, has_signature, new_groups, with_group, groups_among, groups_of, counted, is_said_otherwise, member_number}
 use Rattle.asm_frags.specs.SectionOf.{new_section, is_alike, section_number}
 use Rattle.asm_frags.specs.Sections.{section_flags, entered_there, entered_by, entered_or_new, new_member}
 use Rattle.asm_frags.specs.Writing.{LooseSection}
 use Rattle.asm_declarations.specs.declared.section_changes.Header.{Header}
 use Rattle.asm_declarations.specs.SectionChanges.{numbered, entered_as, entered_for}
-use Rattle.asm_place.specs.SourceSizes.{HasShortName, HasShortSignature, IsNoGroup}
+use Rattle.asm_place.specs.SourceSizes.{HasShortName, IsNoGroup}
 use Rattle.asm_place.proofs.Walks.{Fine, made, refused, either_by}
 
 -- HOW MANY
@@ -144,4 +144,4 @@ module _ (sections : List LooseSection) where
       let group : Group = record { signature = said.0; comdat = said.1 } in
       either_by (nat_lt (2 ^ 16) (length name)) (λ long. refused BadSection)
       (λ short. either_by (nat_lt (2 ^ 16) (length said.0)) (λ long. refused BadSection)
-      (λ signed. member_entered group name header (is_told_otherwise group sections) (ltb-false (2 ^ 16) (length name) short) (ltb-false (2 ^ 16) (length said.0) signed) other))
+      (λ signed. member_entered group name header (is_said_otherwise group sections) (ltb-false (2 ^ 16) (length name) short) (ltb-false (2 ^ 16) (length said.0) signed) other))

@@ -16,14 +16,14 @@ use Rattle.x86_insn.specs.declared.amounts.Suffix.{Suffix}
 use Rattle.asm_frags.specs.Fields.{width, growth_role}
 use Rattle.asm_frags.specs.PlainBytes.{field_end, FieldsStand}
 use Rattle.asm_frags.specs.declared.flags.SectionFlags.{SectionFlags}
-use Rattle.asm_frags.specs.Groups.{counted, groups_among, groups_of}
+use Rattle.asm_frags.specs.Groups.{HasShortSignature, counted, groups_among, groups_of}
 use Rattle.asm_frags.specs.SectionOf.{new_section}
 use Rattle.asm_frags.specs.Sections.{section_flags, first_sections}
 use Rattle.asm_frags.specs.Writing.{LooseItem, LooseSection, ends_in_run, new_item, item_behind, with_item, with_run, with_bytes, with_field, with_growing}
 use Rattle.asm_values.specs.State.{nothing_placed}
 use Rattle.section_laws.specs.Within.{CountsItems, IsWithin, AreWithin, PutsStayWithin}
 use Rattle.asm_place.specs.Instructions.{with_more, IsContinued, Grows}
-use Rattle.asm_place.specs.SourceSizes.{HasShortName, HasShortSignature, IsNoGroup, AreFewSections}
+use Rattle.asm_place.specs.SourceSizes.{HasShortName, IsNoGroup, AreFewSections}
 
 -- two numbers are one or not
 pub same_or_not : (i j : ℕ) → (j ≡ i) ⊎ (j ≢ i)

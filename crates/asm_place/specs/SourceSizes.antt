@@ -1,7 +1,6 @@
 -- How many sections and symbols a source makes, and how long their names are.
 use Rattle.std.specs.Prelude.{◌≡◌, ◌≢◌, ◌^◌, ◌≤◌, true, List, All, length}
-use Rattle.asm_frags.specs.declared.groups.Group.{Group}
-use Rattle.asm_frags.specs.Groups.{counted, groups_of}
+use Rattle.asm_frags.specs.Groups.{HasShortSignature, counted, groups_of}
 use Rattle.asm_frags.specs.Writing.{LooseSection}
 use Rattle.asm_symbols.specs.Interning.{is_within_limits}
 use Rattle.asm_values.specs.State.{Placed}
@@ -9,10 +8,6 @@ use Rattle.asm_values.specs.State.{Placed}
 -- the name of the section has at most as many bytes as a statement
 abbrev pub HasShortName : LooseSection → Type 0
 HasShortName section = length section.name ≤ 2 ^ 16
-
--- so has the signature of the group
-abbrev pub HasShortSignature : Group → Type 0
-HasShortSignature group = length group.signature ≤ 2 ^ 16
 
 -- the section has another type than that of a group of sections
 abbrev pub IsNoGroup : LooseSection → Type 0

@@ -3,7 +3,7 @@ use Rattle.std.proofs.Common.{◌≡◌, ℕ, zero, suc, ◌^◌, ◌≤◌, [],
 use Rattle.std.specs.Prelude.{slice_get}
 use Rattle.std.proofs.lemmas.List.Elements.{All-nil, All-cons}
 use Rattle.asm_expr.specs.declared.naming.Name.TheVariants.{Plain}
-use Rattle.asm_frags.specs.Groups.{groups_of}
+use Rattle.asm_frags.specs.Groups.{HasShortSignature, groups_of}
 use Rattle.asm_frags.specs.SectionOf.{SectionOf}
 use Rattle.asm_symbols.specs.declared.entries.Binding.TheVariants.{Global}
 use Rattle.asm_symbols.specs.declared.entries.Meaning.TheVariants.{Label}
@@ -27,7 +27,7 @@ use Rattle.elf_object.specs.TableLaws.{table_in}
 use Rattle.object_laws.proofs.FileParts.{bodies, file_long}
 use Rattle.object_laws.proofs.ObjectParts.{image_is}
 use Rattle.object_laws.specs.ObjectLimits.{ObjectFits, entries_of}
-use Rattle.object_laws.specs.SmallSources.{HasShortSignature, IsSmallSource}
+use Rattle.object_laws.specs.SmallSources.{IsSmallSource}
 
 -- `.globl f`, `f:`
 abbrev f : Symbol

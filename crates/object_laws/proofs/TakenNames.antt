@@ -7,7 +7,7 @@ use Rattle.std.proofs.lemmas.List.Sums.{sum_by-cons}
 use Rattle.asm_expr.specs.declared.naming.Name.{Name}
 use Rattle.asm_expr.specs.declared.naming.Name.TheVariants.{Plain, Numeric, Place}
 use Rattle.asm_frags.specs.declared.groups.Group.{Group}
-use Rattle.asm_frags.specs.Groups.{has_signature, with_group, groups_of}
+use Rattle.asm_frags.specs.Groups.{HasShortSignature, has_signature, with_group, groups_of}
 use Rattle.asm_frags.specs.SectionOf.{SectionOf}
 use Rattle.asm_symbols.specs.declared.entries.Symbol.{Symbol}
 use Rattle.asm_symbols.specs.Interning.{name_size}
@@ -21,7 +21,6 @@ use Rattle.elf_object.specs.TableLaws.{named_targets}
 use Rattle.elf_symbols.specs.SymbolValues.{symbol_value_of}
 use Rattle.elf_object.specs.declared.relocations.Relocation.{Relocation}
 use Rattle.elf_object.specs.Sections.{source_section, relocation_bytes, with_relocations, header_count, entries_from, members_of, group_entries}
-use Rattle.object_laws.specs.SmallSources.{HasShortSignature}
 
 -- how many bytes the names of these take
 abbrev pub taken : {A : Type 0} → (A → List ℕ) → List A → ℕ

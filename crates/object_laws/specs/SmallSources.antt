@@ -1,7 +1,6 @@
 -- The objects of small sources have few headers, symbols and names (gABI, chapter 4, "Data Representation" and "Special Section Indexes").
 use Rattle.std.specs.Prelude.{◌≡◌, ℕ, ◌+◌, ◌-◌, ◌*◌, ◌^◌, ◌<◌, ◌≤◌, All, length, Some, slice_get}
-use Rattle.asm_frags.specs.declared.groups.Group.{Group}
-use Rattle.asm_frags.specs.Groups.{counted, groups_of}
+use Rattle.asm_frags.specs.Groups.{HasShortSignature, counted, groups_of}
 use Rattle.asm_frags.specs.SectionOf.{SectionOf}
 use Rattle.asm_symbols.specs.Interning.{names_size}
 use Rattle.asm_symbols.specs.SymbolMap.{SymbolMap}
@@ -9,10 +8,6 @@ use Rattle.asm_relax.specs.Settling.{LaidItem, LaidSections}
 use Rattle.elf_object.specs.Limits.{NumbersFit}
 use Rattle.object_laws.specs.ObjectLimits.{ObjectFits, symbol_table_index}
 use Rattle.object_laws.specs.SymbolReading.{header_index}
-
--- the signature of the group has at most 2^16 bytes
-abbrev pub HasShortSignature : Group → Type 0
-HasShortSignature group = length group.signature ≤ 2 ^ 16
 
 -- there are at most 30,005 sections and groups, the names of sections and the signatures of groups have at most 2^16 bytes, there are so few symbols and files that
 -- their entries can be counted beside those of sections, and names of symbols and files take at most 2^31 bytes

@@ -1,5 +1,5 @@
 -- At first there is no name and no section.
-use Rattle.std.proofs.Common.{◌≡◌, ◌<◌, arith}
+use Rattle.std.proofs.Common.{◌<◌, arith}
 use Rattle.asm_frags.specs.Groups.{counted, groups_of}
 use Rattle.asm_frags.proofs.NamedLemmas.{none_named}
 use Rattle.asm_frags.proofs.section_list.Sections+Loose.new.Goals as goal

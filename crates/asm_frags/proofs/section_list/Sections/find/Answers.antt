@@ -1,6 +1,5 @@
 -- The number of a name is that of its section.
-use Rattle.std.proofs.Common.{◌≡◌, ◌<◌, IfSome, is_some, length, ◌∙◌, ap, subst, sym}
-use Rattle.asm_frags.specs.SectionOf.{section_number}
+use Rattle.std.proofs.Common.{◌<◌, IfSome, is_some, length, ◌∙◌, ap, subst, sym}
 use Rattle.asm_frags.proofs.NamedLemmas.{number_same, found_within, found_present}
 use Rattle.asm_frags.proofs.section_list.Sections.find.Goals as goal
 

@@ -1,5 +1,5 @@
 -- A group of an index is that of its entry.
-use Rattle.std.proofs.Common.{◌≡◌, ◌<◌, ◌∙◌, ap, sym, length, slice_get, true≢false, arith}
+use Rattle.std.proofs.Common.{◌<◌, ◌∙◌, ap, sym, length, slice_get, true≢false, arith}
 use Rattle.asm_frags.specs.Groups.{groups_of}
 use Rattle.asm_frags.proofs.NamedLemmas.{groups_same, group_count, entry_there}
 use Rattle.asm_frags.proofs.section_list.Sections.group.Goals as goal

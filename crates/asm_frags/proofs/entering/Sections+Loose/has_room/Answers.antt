@@ -1,8 +1,8 @@
 -- Sections and groups are counted.
-use Rattle.std.proofs.Common.{◌≡◌, ℕ, ◌+◌, nat_lt, length, ◌∙◌, ap, arith}
-use Rattle.asm_frags.specs.Groups.{groups_of, counted}
+use Rattle.std.proofs.Common.{◌≡◌, ◌+◌, nat_lt, ◌∙◌, ap, arith}
+use Rattle.asm_frags.specs.Groups.{counted}
 use Rattle.asm_frags.proofs.NamedLemmas.{group_count}
-use Rattle.asm_frags.proofs.section_list.Sections+Loose.has_room.Goals as goal
+use Rattle.asm_frags.proofs.entering.Sections+Loose.has_room.Goals as goal
 
 pub returns : goal.returns
 returns c =

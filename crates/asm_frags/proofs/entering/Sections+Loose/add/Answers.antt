@@ -1,12 +1,12 @@
 -- The name stands where the section does.
-use Rattle.std.proofs.Common.{◌≡◌, ◌+◌, ◌<◌, ◌≤◌, List, [], ◌∷◌, ◌++◌, length, false, None, ◌∙◌, ap, refl, arith, rules}
+use Rattle.std.proofs.Common.{◌≡◌, ◌+◌, ◌<◌, length, false, None, ◌∙◌, ap, refl, arith, rules}
 use Rattle.std.specs.List.{list_any}
 use Rattle.indexmap.proofs.CallerLemmas.{insert_entry-new}
 use Rattle.asm_frags.specs.Groups.{counted}
-use Rattle.asm_frags.specs.SectionOf.{SectionOf, is_section_named, section_number}
+use Rattle.asm_frags.specs.SectionOf.{is_section_named, section_number}
 use Rattle.asm_frags.specs.Sound.{heading_of, plain_groups}
 use Rattle.asm_frags.proofs.NamedLemmas.{number_same, groups_same, name_absent, added}
-use Rattle.asm_frags.proofs.section_list.Sections+Loose.add.Goals as goal
+use Rattle.asm_frags.proofs.entering.Sections+Loose.add.Goals as goal
 
 pub invariant_of-self-2 : goal.invariant_of-self-2
 invariant_of-self-2 c =
