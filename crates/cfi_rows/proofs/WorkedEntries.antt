@@ -85,6 +85,7 @@ pointer_rows = record {
   other_letters = refl;
   other_order = refl;
   other_data = refl;
+  more_data = refl;
   no_nops = refl;
   needless_nops = refl;
 }

@@ -80,6 +80,12 @@ of_other_order =
     0x1c ∷ 0x00 ∷ 0x00 ∷ 0x00 ∷ 0x00 ∷ 0x00 ∷ 0x00 ∷ 0x00 ∷ 0x01 ∷ 0x7a ∷ 0x4c ∷ 0x50 ∷ 0x52 ∷ 0x00 ∷ 0x01 ∷ 0x78 ∷ 0x10 ∷ 0x07
     ∷ 0x1b ∷ 0x9b ∷ 0x00 ∷ 0x00 ∷ 0x00 ∷ 0x00 ∷ 0x1b ∷ 0x0c ∷ 0x07 ∷ 0x08 ∷ 0x90 ∷ 0x01 ∷ 0x00 ∷ 0x00 ∷ []
 
+-- the same as `common_bytes` with two bytes more of data in place of the nops: no CIE that is taken
+abbrev pub of_more_data : List ℕ
+of_more_data =
+    0x14 ∷ 0x00 ∷ 0x00 ∷ 0x00 ∷ 0x00 ∷ 0x00 ∷ 0x00 ∷ 0x00 ∷ 0x01 ∷ 0x7a ∷ 0x52 ∷ 0x00 ∷ 0x01 ∷ 0x78 ∷ 0x10 ∷ 0x03 ∷ 0x1b ∷ 0x00 ∷ 0x00
+    ∷ 0x0c ∷ 0x07 ∷ 0x08 ∷ 0x90 ∷ 0x01 ∷ []
+
 -- the row one byte from the start of an FDE with this distance back to its CIE and this pointer to its LSDA
 abbrev pub Passes : List ℕ → ℕ → List ℕ → Option CfaRow → Type 0
 Passes cie back lsda row = row_of cie (entry_bytes back 0 6 lsda framed) 1 ≡ row
@@ -131,7 +137,8 @@ pub record OtherRows : Type 0 where
   pub no_entry : row_of common_bytes (13 ∷ 0 ∷ 0 ∷ 0 ∷ 0 ∷ 0 ∷ 0 ∷ 0 ∷ 0 ∷ 0 ∷ 0 ∷ 0 ∷ 6 ∷ 0 ∷ 0 ∷ 0 ∷ 0 ∷ []) 0 ≡ None
 
 -- of CIEs with the pointer to a personality or the encoding of pointers to LSDAs: the pointers are passed over, whatever they are, and the data of an FDE has
--- just the size that its CIE says; and what is no CIE: another encoding, another order, another length of the data, no nops where there have to be two
+-- just the size that its CIE says; and what is no CIE: another encoding, another order, another length of the data, more data,
+-- no nops where there have to be two
 pub record PointerRows : Type 0 where
   pub personality_passed : Passes of_personality 32 [] (Some pushed)
   pub lsda_passed : Passes of_lsda 28 (1 ∷ 2 ∷ 3 ∷ 4 ∷ []) (Some pushed)
@@ -149,6 +156,7 @@ pub record PointerRows : Type 0 where
   pub other_letters : Passes (slice_set (slice_set of_both 10 0x4c) 11 0x50) 36 (1 ∷ 2 ∷ 3 ∷ 4 ∷ []) None
   pub other_order : Passes of_other_order 36 (1 ∷ 2 ∷ 3 ∷ 4 ∷ []) None
   pub other_data : Passes (slice_set of_both 17 0x08) 36 (1 ∷ 2 ∷ 3 ∷ 4 ∷ []) None
+  pub more_data : Passes of_more_data 28 [] None
   pub no_nops : Passes (slice_set (take 30 of_both) 0 0x1a) 36 (1 ∷ 2 ∷ 3 ∷ 4 ∷ []) None
   pub needless_nops : Passes (slice_set of_lsda 0 0x16 ++ 0 ∷ 0 ∷ []) 28 (1 ∷ 2 ∷ 3 ∷ 4 ∷ []) None
 
