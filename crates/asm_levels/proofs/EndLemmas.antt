@@ -3,7 +3,7 @@ use Rattle.std.proofs.Common.{◌≡◌, ℕ, ◌+◌, ◌-◌, ◌<◌, ◌≤�
 use Rattle.std.proofs.lemmas.Bool.{cases_eq}
 use Rattle.std.proofs.lemmas.List.{get_or-set_same, get_or-set_other, get_or_push, get_or_append_left, get_or_default, length_push}
 use Rattle.asm_levels.specs.declared.rows.Row.{Row}
-use Rattle.asm_levels.specs.Resizing.{is_end, depends_on_address, IsMovedBefore, AreDependents, IsAmong}
+use Rattle.asm_levels.specs.RowLists.{is_end, depends_on_address, IsMovedBefore, AreDependents, IsAmong}
 
 -- the last row moves what stands behind all rows
 pub before_last : (rows : List Row) (index : ℕ) → index + 1 ≡ length rows → IsMovedBefore rows index (index + 1)

@@ -2,7 +2,7 @@
 use Rattle.std.proofs.Common.{◌≡◌, ℕ, ◌+◌, ◌<◌, zero, suc, set, inl, inr, List, [], ◌∷◌, ◌++◌, length, replicate, get_or, refl, ap, sym, ◌∙◌, arith}
 use Rattle.std.proofs.lemmas.Bool.{cases_eq}
 use Rattle.std.proofs.lemmas.List.{get_or-set_same, get_or-set_other, get_or_push, get_or_append_left, length_push}
-use Rattle.asm_levels.specs.Resizing.{IsAmong}
+use Rattle.asm_levels.specs.RowLists.{IsAmong}
 use Rattle.asm_levels.specs.Watching.{IsEntry, AreLinked, HaveMore}
 
 zero_at : (count at : ℕ) → ◌≡◌ {A = ℕ} (get_or (replicate count 0) at 0) 0

@@ -1,13 +1,11 @@
 -- A round, as far as the rows before an index.
 use Rattle.std.proofs.Common.{◌≡◌, ◌⊎◌, ℕ, ◌+◌, ◌<◌, ◌≤◌, nat_lt, max, Bool, true, false, cond, List, inl, inr, length, get_or, take, set, refl, ap, sym, ◌∙◌, subst, arith}
-use Rattle.std.specs.List.{All}
 use Rattle.std.proofs.lemmas.Bool.{cases_eq, cases_lt, lt-ltb, le-ltb}
 use Rattle.std.proofs.lemmas.List.{get_or-set_same, get_or-set_other, get_or-map, length-set}
 use Rattle.std.proofs.lemmas.List.Sums.{sum_by_more, sum_by-take-le}
-use Rattle.level_ranks.specs.Rounds.{after, IsAfterRounds}
 use Rattle.asm_levels.specs.declared.rows.RowSize.{RowSize}
 use Rattle.asm_levels.specs.declared.rows.Row.{Row}
-use Rattle.asm_levels.specs.Resizing.{IsAmong}
+use Rattle.asm_levels.specs.RowLists.{IsAmong}
 use Rattle.asm_levels.specs.Needs.{needed, levels_needed, top, is_below_top, has_levels, several}
 
 -- the levels before the index are raised, the others stand, and it is known whether one rose
@@ -113,18 +111,4 @@ pub looks_few : (size : RowSize) (level : ℕ) → cond (is_below_top size level
 looks_few size level = elim (cases_lt level (top size)) [
   | inl lt ↦ rw (lt-ltb level (top size) lt, lt-ltb 0 (top size) (omega arith)) (omega arith)
   | inr ge ↦ rw (le-ltb level (top size) ge) (omega arith)
-]
-
--- the levels before the first round are those at the start
-pub first_levels : (need : List ℕ → List ℕ) (tops start levels : List ℕ) (count : ℕ) → IsAfterRounds need tops start levels count → count ≡ 0 → levels ≡ start
-first_levels need tops start levels count rounds none = rounds.levels_are ∙ ap (λ n. after need start n) none
-
-pub lowest_still : (start levels : List ℕ) → levels ≡ start → All (λ level. level ≡ 0) start → All (λ level. level ≡ 0) levels
-lowest_still start levels same lowest = subst (λ (xs : List ℕ). All (λ level. level ≡ 0) xs) (sym same) lowest
-
--- after the first round or a later one, each row of several levels was looked at
-pub at_least_once : (start before now several count : ℕ) → start ≤ before → (0 < count → start + several ≤ before) → before ≤ now → (count ≡ 0 → before + several ≤ now) → start + several ≤ now
-at_least_once start before now several count from earlier later first = elim (cases_eq count 0) [
-  | inl none ↦ (let here = first none in omega arith)
-  | inr some ↦ (let here = earlier (omega arith) in omega arith)
 ]

@@ -1,5 +1,5 @@
 -- Nodes above a block, and their halves.
-use Rattle.std.proofs.Common.{◌≡◌, ◌⊎◌, ℕ, ◌+◌, ◌-◌, ◌/◌, ◌%◌, ◌<◌, ◌≤◌, zero, suc, List, inl, inr, refl, ap, sym, ◌∙◌, arith}
+use Rattle.std.proofs.Common.{◌≡◌, ◌⊎◌, ℕ, ◌+◌, ◌-◌, ◌/◌, ◌%◌, ◌<◌, ◌≤◌, zero, suc, List, inl, inr, refl, ap, ◌∙◌, arith}
 use Rattle.std.proofs.lemmas.Bool.{cases_eq}
 use Rattle.asm_levels.specs.Watching.{halved, IsAbove, IsEntry, HasOwnEntry}
 
@@ -7,28 +7,12 @@ halved_half : (times number : ℕ) → halved times (number / 2) ≡ halved time
 halved_half zero number = refl
 halved_half (suc times) number = halved_half times (number / 2)
 
-halved_zero : (times : ℕ) → halved times 0 ≡ 0
-halved_zero zero = refl
-halved_zero (suc times) = halved_zero times
-
 pub above_self : (leaf : ℕ) → IsAbove leaf leaf
 above_self leaf = (0, refl)
 
 -- the half of a number is above it
 pub above_half : (node leaf : ℕ) → IsAbove node leaf → IsAbove (node / 2) leaf
 above_half node leaf above = (suc above.0, halved_half above.0 leaf ∙ ap (λ n. n / 2) above.1)
-
--- nothing but 0 is above 0
-pub above_none : (node : ℕ) → IsAbove node 0 → node ≡ 0
-above_none node above = sym above.1 ∙ halved_zero above.0
-
--- what is above a node is the node, or above its half
-pub above_cases : (node leaf : ℕ) → IsAbove node leaf → (node ≡ leaf) ⊎ IsAbove node (leaf / 2)
-above_cases node leaf above = first_cases above.0 above.1
-  where
-    first_cases : (times : ℕ) → halved times leaf ≡ node → (node ≡ leaf) ⊎ IsAbove node (leaf / 2)
-    first_cases zero is = inl (sym is)
-    first_cases (suc times) is = inr (times, is)
 
 -- the block has an entry of the row at its node or above it, or one of these nodes is above it
 abbrev pub IsReached : List ℕ → List ℕ → ℕ → ℕ → ℕ → ℕ → Type 0

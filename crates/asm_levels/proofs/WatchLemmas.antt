@@ -4,7 +4,7 @@ use Rattle.std.proofs.lemmas.Bool.{cases_eq, lt-ltb, le-ltb}
 use Rattle.std.proofs.lemmas.List.{length-replicate, get_or_push, get_or_append_left, get_or_default, length_push}
 use Rattle.asm_levels.specs.declared.rows.Row.{Row}
 use Rattle.asm_levels.specs.Needs.{top, has_levels}
-use Rattle.asm_levels.specs.Resizing.{IsAmong}
+use Rattle.asm_levels.specs.RowLists.{IsAmong}
 use Rattle.asm_levels.specs.Watching.{RowSpans, block_of, first_leaf, AreLinked, HaveMore, IsRun, IsCovered, FirstWatchers}
 use Rattle.asm_levels.proofs.LinkLemmas.{among_kept, among_new}
 use Rattle.asm_levels.proofs.RunLemmas.{IsMarked, length-marked, covered_kept, run_entries, no_followers, followers_more}

@@ -5,7 +5,5 @@ pub mod Sizes
 pub mod Shifts
 pub mod Needs
 pub mod Standing
-pub mod Resizing
+pub mod RowLists
 pub mod Watching
-pub mod Looking
-pub mod Plans

@@ -1,7 +1,6 @@
 -- The levels of rows: how many each has, and which one its distance needs.
-use Rattle.std.specs.Prelude.{◌≡◌, ℕ, zero, suc, ◌+◌, ◌-◌, ◌%◌, ◌^◌, ◌<◌, ◌≤◌, ◌⊎◌, nat_lt, nat_le, Bool, List, [], ◌∷◌, map, count_by, if◌then◌else◌}
+use Rattle.std.specs.Prelude.{ℕ, nat_lt, Bool, List, map, count_by}
 use Rattle.item_bytes.specs.Levels.{jump_level, leb128_level, advance_level}
-use Rattle.std.specs.List.{prefix_len}
 use Rattle.asm_levels.specs.declared.rows.RowSize.{RowSize}
 use Rattle.asm_levels.specs.declared.rows.RowSize.TheVariants.{Fixed, Align, Org, Jump, Leb128, Advance, End}
 use Rattle.asm_levels.specs.declared.rows.Row.{Row}

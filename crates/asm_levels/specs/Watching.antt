@@ -6,7 +6,7 @@ use Rattle.asm_levels.specs.declared.rows.RowSize.{RowSize}
 use Rattle.asm_levels.specs.declared.rows.RowSize.TheVariants.{Fixed, Align, Org, Jump, Leb128, Advance, End}
 use Rattle.asm_levels.specs.declared.rows.Row.{Row}
 use Rattle.asm_levels.specs.Needs.{has_levels, tops}
-use Rattle.asm_levels.specs.Resizing.{IsAmong}
+use Rattle.asm_levels.specs.RowLists.{IsAmong}
 
 -- the distance stands between these two rows
 abbrev pub IsSpan : Distance → ℕ → ℕ → Type 0

@@ -1,12 +1,19 @@
 //! For each row the index behind the last one that its size moves, and the rows whose size depends on their address.
 
 ghost use Rattle.std.specs.Prelude.{◌≡◌, ◌<◌, ◌≤◌, ◌^◌, ℕ, IfOk, length, slice_index};
-ghost use Rattle.asm_levels.specs.Resizing as spec;
+ghost use Rattle.asm_levels.specs.RowLists as spec;
 
 use crate::packing::{Held, PackedRow};
 use crate::rows::RowSize;
 use asm_base::NoMemory;
 use std::alloc::Global;
+
+/// Rows, and for each the index behind the last row that its size moves.
+#[derive(Clone, Copy)]
+pub struct EndedRows<'a> {
+    pub rows: &'a [PackedRow],
+    pub ends: &'a [u32],
+}
 
 /// Whether the row is an end mark.
 #[inline(always)]
@@ -57,7 +64,7 @@ fn end_at(rows: &[PackedRow], ends: &[u32], index: usize) -> u32
 }
 
 /// For each row the index behind the last one that its size moves.
-pub(crate) fn ends_of(alloc: Global, rows: &[PackedRow]) -> Result<Vec<u32>, NoMemory>
+pub fn ends_of(alloc: Global, rows: &[PackedRow]) -> Result<Vec<u32>, NoMemory>
     requires { length rows.now < 2 ^ 32 }
     ensures { IfOk result (λ ends. spec.AreEnds rows.now ends.items) }
 {
@@ -71,7 +78,7 @@ pub(crate) fn ends_of(alloc: Global, rows: &[PackedRow]) -> Result<Vec<u32>, NoM
 }
 
 /// The rows whose size depends on their address, in order.
-pub(crate) fn dependents_of(alloc: Global, rows: &[PackedRow]) -> Result<Vec<u32>, NoMemory>
+pub fn dependents_of(alloc: Global, rows: &[PackedRow]) -> Result<Vec<u32>, NoMemory>
     requires { length rows.now < 2 ^ 32 }
     ensures { IfOk result (λ list. spec.AreDependents rows.now list.items) }
 {

@@ -80,7 +80,7 @@ fn top_other(size: &RowSize) -> u8
 /// The number of levels above the lowest.
 #[tactic(auto, unfolding(crate::specs::Needs::top))]
 #[inline(always)]
-pub(crate) fn top(row: &PackedRow) -> u8
+pub fn top(row: &PackedRow) -> u8
     ensures { result ≡ spec.top row.now.size }
 {
     if let Held::Jump { .. } = &row.held {

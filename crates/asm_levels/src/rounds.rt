@@ -3,7 +3,7 @@
 ghost use Rattle.std.specs.Prelude.{◌≡◌, ◌+◌, ◌^◌, ◌<◌, ◌≤◌, max, ℕ, All, length, slice_index, slice_set, if◌then◌else◌};
 ghost use Rattle.level_ranks.specs.Rounds.{raised, Rises};
 ghost use Rattle.asm_levels.specs.Needs as spec;
-ghost use Rattle.asm_levels.specs.Resizing.{AreListed};
+ghost use Rattle.asm_levels.specs.RowLists.{AreListed};
 ghost use Rattle.asm_levels.specs.Standing.{NamesRows, AllStand};
 
 use crate::needs::{needed, top};
@@ -15,7 +15,7 @@ use std::sync::ledger::Ledger;
 
 /// The level that a row takes. Where it is at its highest one, its distance is not looked at.
 #[inline(always)]
-pub(crate) fn level_taken<L: Ledger>(
+pub fn level_taken<L: Ledger>(
     shifts: &RangeTable,
     row: &PackedRow,
     level: u8,
@@ -35,7 +35,7 @@ pub(crate) fn level_taken<L: Ledger>(
 
 /// Puts a row at this place of a list, if there is room.
 #[inline(always)]
-pub(crate) fn note(list: &mut [u32], place: usize, row: usize)
+pub fn note(list: &mut [u32], place: usize, row: usize)
     requires { row < 2 ^ 32 }
     ensures { list.new ≡ slice_set list.old place row }
 {
@@ -46,7 +46,7 @@ pub(crate) fn note(list: &mut [u32], place: usize, row: usize)
 
 /// Raises each level to what the row's distance needs where the rows are moved so far. Answers how many rose, and
 /// lists these as far as there is room.
-pub(crate) fn look<L: Ledger>(
+pub fn look<L: Ledger>(
     rows: &[PackedRow],
     shifts: &RangeTable,
     levels: &mut [u8],

@@ -112,7 +112,7 @@ fn size_of_other(start: u64, size: &RowSize, level: u8, address: u64) -> u64
 /// The size in bytes of a row of this level at this address, where the row that an `.org` counts from is moved so far.
 #[tactic(auto, unfolding(crate::specs::Sizes::most_bytes))]
 #[inline(always)]
-pub(crate) fn size_from(start: u64, row: &PackedRow, level: u8, address: u64) -> u64
+pub fn size_from(start: u64, row: &PackedRow, level: u8, address: u64) -> u64
     requires align { AlignStands row.now.size }
     requires start { start < 2 ^ 62 }
     requires level { level ≤ 9 }
@@ -150,7 +150,7 @@ fn offset_of(row: &PackedRow) -> u64
 /// The size in bytes of a row of this level that is moved so far, by the shifts of the rows up to it.
 #[tactic(auto, unfolding(crate::specs::Sizes::size_at))]
 #[inline(always)]
-pub(crate) fn size_at(shifts: &RangeTable, row: &PackedRow, level: u8, shift: u64) -> u64
+pub fn size_at(shifts: &RangeTable, row: &PackedRow, level: u8, shift: u64) -> u64
     requires align { AlignStands row.now.size }
     requires org { OrgStands (length shifts.now) row.now.size }
     requires start { spec.start_of shifts.now row.now.size < 2 ^ 62 }
@@ -168,7 +168,7 @@ pub(crate) fn size_at(shifts: &RangeTable, row: &PackedRow, level: u8, shift: u6
 /// How far the row behind this one is moved, which has this level and is moved so far itself.
 #[tactic(auto, unfolding(crate::specs::Shifts::shift_behind, crate::specs::Sizes::size_at))]
 #[inline(always)]
-fn shift_behind(shifts: &RangeTable, row: &PackedRow, level: u8, shift: u64) -> u64
+pub fn shift_behind(shifts: &RangeTable, row: &PackedRow, level: u8, shift: u64) -> u64
     requires align { AlignStands row.now.size }
     requires org { OrgStands (length shifts.now) row.now.size }
     requires start { spec.start_of shifts.now row.now.size < 2 ^ 62 }
@@ -185,21 +185,5 @@ fn shift_behind(shifts: &RangeTable, row: &PackedRow, level: u8, shift: u64) -> 
         0
     } else {
         shift + size_at(shifts, row, level, shift)
-    }
-}
-
-/// Places all rows where these levels move them.
-pub(crate) fn place(rows: &[PackedRow], levels: &[u8], shifts: &mut RangeTable)
-    requires stand { AllStand rows.now }
-    requires bytes { spec.most_in rows.now < 2 ^ 62 }
-    requires levels { All (λ level. level ≤ 9) levels.now }
-    requires as_many_levels { length levels.now ≡ length rows.now }
-    requires as_many_shifts { length shifts.old ≡ length rows.now }
-    ensures { shifts.new ≡ shift_spec.shifts_of rows.now levels.now }
-{
-    let mut shift = 0u64;
-    for (index, row) in rows.iter().enumerate() {
-        shifts.set(index, shift);
-        shift = shift_behind(shifts, row, levels[index], shift);
     }
 }

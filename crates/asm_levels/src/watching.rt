@@ -4,12 +4,12 @@ ghost use Rattle.std.specs.Prelude.{◌≡◌, ◌⊎◌, ◌+◌, ◌*◌, ◌<
 ghost use Rattle.asm_levels.specs.declared.rows.Row.{Row};
 ghost use Rattle.asm_levels.specs.Watching as spec;
 ghost use Rattle.asm_levels.specs.Watching.{AreLinked, HaveMore, HasOwnEntry, AreWatchers, IsRun, block_of};
-ghost use Rattle.asm_levels.specs.Resizing.{AreEnds};
+ghost use Rattle.asm_levels.specs.RowLists.{AreEnds};
 
 use crate::distances::Distance;
+use crate::ends::EndedRows;
 use crate::needs::top;
 use crate::packing::{Held, PackedRow};
-use crate::resizing::EndedRows;
 use crate::rows::RowSize;
 use asm_base::NoMemory;
 use std::alloc::Global;
@@ -29,7 +29,7 @@ pub(crate) fn first_leaf(count: usize) -> usize
 }
 
 /// The node of the block in which a row stands.
-pub(crate) fn leaf_of(count: usize, row: usize) -> usize
+pub fn leaf_of(count: usize, row: usize) -> usize
     requires count { count < 2 ^ 32 }
     requires row { row < count }
     ensures leaf { result ≡ spec.leaf_of count row }
@@ -41,15 +41,15 @@ pub(crate) fn leaf_of(count: usize, row: usize) -> usize
 /// Entries of rows at the nodes of a tree over blocks of rows, where node `n` stands above the nodes `2 * n` and
 /// `2 * n + 1`. Those of a node are linked, from the last one on.
 #[derive(Drop)]
-pub(crate) struct Entries {
-    pub(crate) rows: Vec<u32>,
-    pub(crate) nodes: Vec<u32>,
+pub struct Entries {
+    pub rows: Vec<u32>,
+    pub nodes: Vec<u32>,
     /// For each node one more than the number of its last entry, and 0 where it has none.
-    pub(crate) heads: Vec<usize>,
+    pub heads: Vec<usize>,
     /// For each entry one more than the number of the one of its node before it.
-    pub(crate) links: Vec<usize>,
+    pub links: Vec<usize>,
     /// For each row whether it has the entries of the row before it, and none of its own.
-    pub(crate) follows: Vec<bool>,
+    pub follows: Vec<bool>,
 }
 
 impl Entries {
@@ -245,9 +245,9 @@ fn add_run(
 
 /// The rows whose distances are looked at: by entries where these stand within a section, and else by a list.
 #[derive(Drop)]
-pub(crate) struct Watchers {
-    pub(crate) entries: Entries,
-    pub(crate) wide: Vec<u32>,
+pub struct Watchers {
+    pub entries: Entries,
+    pub wide: Vec<u32>,
 }
 
 /// The lower and the higher one of two rows.
@@ -312,7 +312,7 @@ fn span_within(all: EndedRows, row: usize) -> Option<(usize, usize)>
 
 impl Watchers {
     ghost use Rattle.std.specs.Prelude.{◌≡◌, ◌+◌, ◌<◌, ◌≤◌, ◌^◌, ℕ, IfOk, OnOk, length, vec_len};
-    ghost use Rattle.asm_levels.specs.Resizing.{AreEnds};
+    ghost use Rattle.asm_levels.specs.RowLists.{AreEnds};
     ghost use Rattle.asm_levels.specs.Watching.{FirstWatchers, AreWatchers, IsRun};
 
     /// Has the distance of a row looked at where it may have changed. Takes the first and the last block for which the
@@ -358,7 +358,7 @@ impl Watchers {
     }
 
     /// The watchers of all rows.
-    pub(crate) fn new(alloc: Global, all: EndedRows) -> Result<Watchers, NoMemory>
+    pub fn new(alloc: Global, all: EndedRows) -> Result<Watchers, NoMemory>
         requires few { length all.rows.now < 2 ^ 32 }
         requires ends { AreEnds all.rows.now all.ends.now }
         ensures { IfOk result (λ made. AreWatchers all.entry.rows.now all.entry.ends.now

@@ -3,7 +3,7 @@ use Rattle.std.specs.Prelude.{◌≡◌, ℕ, ◌^◌, ◌<◌, List, All, lengt
 use Rattle.asm_symbols.specs.SymbolMap.{SymbolMap}
 use Rattle.asm_frags.specs.declared.items.Frag.{Frag}
 use Rattle.asm_frags.specs.SectionOf.{SectionOf}
-use Rattle.asm_levels.specs.Plans as levels
+use Rattle.row_plans.specs.Plans as levels
 use Rattle.item_rows.specs.ItemRows.{rows_of}
 use Rattle.asm_relax.specs.declared.plan_states.PlanState.{PlanState}
 use Rattle.asm_relax.specs.declared.plan_states.PlanState.TheVariants.{Fresh, LaidOut, Refused}

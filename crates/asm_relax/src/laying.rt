@@ -8,7 +8,7 @@ ghost use Rattle.asm_relax.specs.Layout.{laid_out_section, laid_out};
 ghost use Rattle.asm_relax.specs.Placing.{address_there};
 
 use asm_frags::{Frag, Laid, Section, Sections};
-use asm_levels::RowPlan;
+use row_plans::RowPlan;
 
 /// The item of this index, which has at most 2^33 plain bytes before it.
 fn item_at(section: &Section<Laid>, item: usize) -> &Frag<Laid>

@@ -14,11 +14,12 @@ ghost use Rattle.item_rows.specs.RowBounds.{SizeFits, IsRowSize, RowFits, AllFit
 use crate::links::{is_linked, is_linked_pair};
 use asm_base::{NoMemory, Place, SectionPlace};
 use asm_frags::{Field, Frag, Laid, Section, Sections, own_place};
-use asm_levels::{Distance, PackedRow, Row, RowPlan, RowSize, few_rows_have_few_bytes};
+use asm_levels::{Distance, PackedRow, Row, RowSize, few_rows_have_few_bytes};
 use asm_symbols::Symbols;
 use item_bytes::Condition;
 use item_contents::{Align, Content, Fill, FragVisit, Growing, Growth, Org, visit};
 use row_distances::{OwnPlace, RowView, RowsApart, distance_of, distances_are_values, rows_apart};
+use row_plans::RowPlan;
 use std::alloc::{AllocError, Global};
 
 /// The most rows: so many have fewer than 2^62 bytes.
