@@ -150,5 +150,6 @@ origin_of finished flags handed f made places ends =
       frames = end.frames;
       lines = end.lines;
       settles = end.settles;
+      faultless = end.faultless;
       image = end.image;
     }

@@ -1,10 +1,10 @@
 -- The fields of an encoding stand apart, within its bytes and behind the first one.
 use Rattle.std.proofs.Common.{◌≡◌, ℕ, ◌+◌, ◌≤◌, inl, inr, Bool, true, false, cond, [], length, Option, None, Some, Ok, refl, sym, ap, ◌∙◌, subst, arith}
-use Rattle.x86_encode.specs.declared.encoded.Field.{Field}
+use Rattle.x86_parts.specs.declared.encoded.Field.{Field}
 use Rattle.x86_encode.specs.Encoding.{encoding_of}
 use Rattle.x86_encode.specs.FieldPlaces.{IsWidth, Apart, EncodingsApart}
 use Rattle.x86_encode.specs.FieldPlaces as encoded
-use Rattle.x86_encode.specs.Filling.{Coding}
+use Rattle.x86_parts.specs.Filling.{Coding}
 use Rattle.asm_frags.specs.Fields.{width}
 use Rattle.asm_place.specs.declared.codes.InsnForms.{InsnForms}
 use Rattle.asm_place.specs.declared.codes.CodeField.{CodeField}

@@ -34,11 +34,11 @@ use Rattle.item_bytes.specs.Jumps.{condition_of}
 use Rattle.item_contents.specs.declared.kinds.Growth.TheVariants.{Jump}
 use Rattle.x86_insn.specs.Views.{Seen, absent, register, immediate, memory, target, View, displaced, view_of}
 use Rattle.x86_lookup.specs.BareInstructions.{bare_code}
-use Rattle.x86_encode.specs.declared.encoded.Field.{Field}
-use Rattle.x86_encode.specs.declared.encoded.EncodeFault.{EncodeFault}
-use Rattle.x86_encode.specs.declared.encoded.EncodeFault.TheVariants.{ValueNotKnown, NoSuchForm, OutOfRange}
+use Rattle.x86_parts.specs.declared.encoded.Field.{Field}
+use Rattle.x86_parts.specs.declared.encoded.EncodeFault.{EncodeFault}
+use Rattle.x86_parts.specs.declared.encoded.EncodeFault.TheVariants.{ValueNotKnown, NoSuchForm, OutOfRange}
 use Rattle.x86_encode.specs.Encoding.{encoding_of}
-use Rattle.x86_encode.specs.Filling.{Coding}
+use Rattle.x86_parts.specs.Filling.{Coding}
 use Rattle.att_operands.specs.declared.faults.OperandCause.{OperandCause}
 use Rattle.att_operands.specs.declared.faults.OperandCause.TheVariants as operand
 use Rattle.att_insns.specs.InsnTexts.{InsnText}

@@ -3,9 +3,9 @@ use Rattle.std.proofs.Common.{◌≡◌, ℕ, zero, suc, ◌+◌, ◌-◌, ◌<�
 use Rattle.std.specs.Prelude.{slice_get, slice_range, unwrap_or}
 use Rattle.std.proofs.lemmas.List.{length-take}
 use Rattle.asm_frags.specs.Fields.{width}
-use Rattle.x86_encode.specs.declared.encoded.Field.{Field}
+use Rattle.x86_parts.specs.declared.encoded.Field.{Field}
 use Rattle.x86_encode.specs.FieldPlaces.{IsWidth, AreApart}
-use Rattle.x86_encode.specs.Filling.{Coding}
+use Rattle.x86_parts.specs.Filling.{Coding}
 use Rattle.asm_place.specs.Coding.{InsnShape, field_size, code_field, displacement_field, immediate_field, is_branch, before_fields, fields_of}
 use Rattle.asm_place.specs.CodePlaces.{FieldInCode, ValueForms}
 use Rattle.step_readings.specs.Held.{AreBytes}

@@ -19,7 +19,7 @@ use Rattle.x86_table.specs.declared.mnemonics.integers.TheConstants.{CALL, HLT, 
 use Rattle.x86_lookup.specs.declared.names.Named.{Named}
 use Rattle.x86_lookup.specs.Names.{the_att_names, has_text}
 use Rattle.x86_lookup.specs.BareInstructions.{Coded, bare_row, bare_view, bare_coded, bare_of, bare_instruction, BareCodesRead, BareCodesStand}
-use Rattle.x86_encode.specs.Codes.{meant}
+use Rattle.x86_parts.specs.Codes.{meant}
 use Rattle.insn_effects.specs.Decoding.{is_branch}
 use Rattle.insn_effects.specs.Flows.{onward, through, returns, stops, flow_of}
 use Rattle.x86_steps.specs.Fillings.{FillsView}

@@ -7,7 +7,7 @@ use Rattle.asm_frags.specs.Writing.{LooseSection}
 use Rattle.section_laws.specs.Within.{AreWithin}
 use Rattle.asm_relax.specs.Settling.{LaidSections}
 use Rattle.x86_insn.specs.Views.{Seen, absent, register, immediate, memory, target, View}
-use Rattle.x86_encode.specs.Filling.{Coding, valued}
+use Rattle.x86_parts.specs.Filling.{Coding, valued}
 use Rattle.insn_effects.specs.Flows.{Flow, onward, jumps, calls, through, returns, stops, flow_of}
 use Rattle.asm_operands.specs.Operands.{begins_with_label}
 use Rattle.asm_values.specs.State.{Placed}

@@ -25,8 +25,8 @@ use Rattle.x86_insn.specs.declared.amounts.FieldKind.{FieldKind}
 use Rattle.x86_insn.specs.declared.amounts.FieldKind.TheVariants.{Branch}
 use Rattle.x86_insn.specs.declared.amounts.Suffix.TheVariants.{Plt}
 use Rattle.x86_insn.specs.Views.{View}
-use Rattle.x86_encode.specs.declared.encoded.Field.{Field as CodedField}
-use Rattle.x86_encode.specs.Filling.{Coding}
+use Rattle.x86_parts.specs.declared.encoded.Field.{Field as CodedField}
+use Rattle.x86_parts.specs.Filling.{Coding}
 use Rattle.insn_effects.specs.Decoding.{action_of}
 use Rattle.insn_effects.specs.Effects.{effect_of}
 use Rattle.insn_effects.specs.Flows.{Flow, jumps, flow_of, is_unsupported}

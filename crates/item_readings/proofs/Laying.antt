@@ -3,7 +3,7 @@ use Rattle.std.proofs.Common.{◌≡◌, ℕ, zero, suc, ◌+◌, ◌<◌, ◌++
 use Rattle.std.proofs.lemmas.Option.{none-some, same_Some}
 use Rattle.x86_insn.specs.Views.{View}
 use Rattle.x86_table.specs.Reads.{Reads}
-use Rattle.x86_encode.specs.Codes.{meant}
+use Rattle.x86_parts.specs.Codes.{meant}
 use Rattle.insn_effects.specs.Decoding.{action_of}
 use Rattle.insn_effects.specs.declared.effects.Role.TheVariants as role
 use Rattle.insn_effects.specs.Flows.{onward, returns, flow_of}

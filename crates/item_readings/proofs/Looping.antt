@@ -9,7 +9,7 @@ use Rattle.x86_table.specs.Rows.{the_rows}
 use Rattle.x86_table.specs.WorkedReadings.{worked, WorkedReadings}
 use Rattle.item_bytes.specs.Jumps.{jump_bytes, jump_distance}
 use Rattle.jump_laws.specs.JumpReadings.{jump_over, JumpCodesRead}
-use Rattle.x86_encode.specs.Codes.{meant}
+use Rattle.x86_parts.specs.Codes.{meant}
 use Rattle.insn_effects.specs.declared.effects.Role.TheVariants as role
 use Rattle.insn_effects.specs.Decoding.{action_of}
 use Rattle.insn_effects.specs.Flows.{onward, jumps}

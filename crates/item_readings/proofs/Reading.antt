@@ -1,7 +1,7 @@
 -- Whatever is read where the bytes of an item stand does what the item may do.
 use Rattle.std.proofs.Common.{ℕ, List, length, Option, Some, sym, ◌∙◌}
 use Rattle.x86_insn.specs.Views.{View}
-use Rattle.x86_encode.specs.Filling.{filled, valued}
+use Rattle.x86_parts.specs.Filling.{filled, valued}
 use Rattle.item_bytes.specs.Jumps.{jump_bytes}
 use Rattle.code_functions.specs.declared.items.CodeItem.{CodeItem}
 use Rattle.flow_graph.specs.declared.nodes.Node.{Node}

@@ -3,7 +3,7 @@ use Rattle.std.specs.Prelude.{◌≡◌, ◌<◌, ◌+◌, ◌^◌, ◌++◌, �
 use Rattle.x86_insn.specs.declared.amounts.Values.{Values}
 use Rattle.x86_insn.specs.Views.{View}
 use Rattle.x86_encode.specs.Encoding.{encoding_of}
-use Rattle.x86_encode.specs.Filling.{Coding, field_holds, filled, valued}
+use Rattle.x86_parts.specs.Filling.{Coding, field_holds, filled, valued}
 use Rattle.item_bytes.specs.declared.jumps.Condition.{Condition}
 use Rattle.item_bytes.specs.Jumps.{jump_bytes}
 use Rattle.insn_effects.specs.Decoding.{action_of}

@@ -5,16 +5,16 @@ use Rattle.std.proofs.lemmas.List.Elements.{All-head, All-tail}
 use Rattle.asm_frags.specs.Fields.{width, is_distance, holds, low_bytes}
 use Rattle.x86_insn.specs.Views.{View}
 use Rattle.x86_table.specs.Reads.{meaning, ReadsOneWay}
-use Rattle.x86_encode.specs.declared.encoded.Field.{Field as CodedField}
+use Rattle.x86_parts.specs.declared.encoded.Field.{Field as CodedField}
 use Rattle.x86_insn.specs.declared.amounts.FieldKind.{FieldKind}
 use Rattle.x86_insn.specs.declared.amounts.FieldKind.TheVariants as kind
 use Rattle.x86_encode.specs.Answers.{InOrder, Fills}
-use Rattle.x86_encode.specs.Codes.{meant}
+use Rattle.x86_parts.specs.Codes.{meant}
 use Rattle.x86_encode.specs.Encoding.{encoding_of}
 use Rattle.x86_encode.specs.EncodingLaws.{EncodingsFill}
 use Rattle.x86_encode.specs.FieldPlaces.{IsWidth, Apart, HoldUnknown, Unknown, EncodingsApart, EncodingsHoldUnknown}
 use Rattle.x86_encode.specs.FieldPlaces as encoded
-use Rattle.x86_encode.specs.Filling.{Coding, kind_holds, field_holds, low_bytes as bytes_of_low, filled}
+use Rattle.x86_parts.specs.Filling.{Coding, kind_holds, field_holds, low_bytes as bytes_of_low, filled}
 use Rattle.att_insns.specs.InsnTexts.{InsnText}
 use Rattle.asm_place.specs.Coding.{shape_in, view_in, values_in, field_size, is_branch, code_field, displacement_field, immediate_field, before_fields}
 use Rattle.asm_place.specs.CodePlaces.{FieldInCode, ValueForms, with_held, AreApart, code_fields}

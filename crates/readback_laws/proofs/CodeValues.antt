@@ -8,7 +8,7 @@ use Rattle.asm_frags.specs.declared.fields.FieldSize.TheVariants.{One, Two, Four
 use Rattle.asm_frags.specs.Fields.{width, fits, fits_signed, holds, low_bytes}
 use Rattle.x86_insn.specs.declared.amounts.FieldKind.{FieldKind}
 use Rattle.x86_insn.specs.declared.amounts.FieldKind.TheVariants as kind
-use Rattle.x86_encode.specs.Filling.{kind_holds, low_bytes as bytes_of_low}
+use Rattle.x86_parts.specs.Filling.{kind_holds, low_bytes as bytes_of_low}
 
 -- THE BYTES
 

@@ -141,7 +141,7 @@ module _ (settled : AreSettled) (table : TableFacts) (lined : LineFacts) (placin
       let put : placed (frame ∷ frames) start ≡ Ok framed = sym (ap (λ (all : List Frame). placed all start) are) ∙ from.frames in
       let low = facts.low.rows tables.symbols tables.sections from.laid from.settles continued.within in
       subst (λ (file : List ℕ). TableReads file tables.symbols from.laid (frame ∷ frames)) (sym from.image)
-      (tables_read frame frames start framed tables from.laid ready covered put goes_on from.settles (record { small = small; rows = low }))
+      (tables_read frame frames start framed tables from.laid ready covered put goes_on from.settles from.faultless (record { small = small; rows = low }))
 
   same_start : placed [] start ≡ Ok framed → framed ≡ start
   unfolding placed

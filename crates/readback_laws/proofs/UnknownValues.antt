@@ -8,11 +8,11 @@ use Rattle.x86_insn.specs.declared.insns.Base.TheVariants as base
 use Rattle.x86_insn.specs.declared.insns.Slot.{Slot}
 use Rattle.x86_insn.specs.declared.insns.Slot.TheVariants as slot
 use Rattle.x86_insn.specs.Views.{Seen, immediate as shown_immediate, memory, displaced}
-use Rattle.x86_encode.specs.declared.encoded.Field.{Field}
+use Rattle.x86_parts.specs.declared.encoded.Field.{Field}
 use Rattle.x86_insn.specs.declared.amounts.FieldKind.TheVariants as kind
-use Rattle.x86_encode.specs.Codes.{meant}
+use Rattle.x86_parts.specs.Codes.{meant}
 use Rattle.x86_encode.specs.FieldPlaces.{is_rip, lacks_number, lacks_displacement, any_operand, HoldUnknown}
-use Rattle.x86_encode.specs.Filling.{Coding}
+use Rattle.x86_parts.specs.Filling.{Coding}
 use Rattle.att_insns.specs.InsnTexts.{InsnText}
 use Rattle.asm_place.specs.Coding.{seen_in, view_in}
 

@@ -18,10 +18,10 @@ use Rattle.elf_file.specs.Sections.{no_bits}
 use Rattle.item_bytes.specs.declared.jumps.Condition.{Condition}
 use Rattle.x86_insn.specs.Views.{View}
 use Rattle.x86_table.specs.Reads.{meaning, Reads}
-use Rattle.x86_encode.specs.declared.encoded.Field.{Field as CodedField}
+use Rattle.x86_parts.specs.declared.encoded.Field.{Field as CodedField}
 use Rattle.x86_encode.specs.Answers.{InOrder}
-use Rattle.x86_encode.specs.Codes.{meant}
-use Rattle.x86_encode.specs.Filling.{Coding, filled, valued, ReadsAs}
+use Rattle.x86_parts.specs.Codes.{meant}
+use Rattle.x86_parts.specs.Filling.{Coding, filled, valued, ReadsAs}
 use Rattle.att_insns.specs.InsnTexts.{InsnText}
 use Rattle.x86_lookup.specs.BareInstructions.{Coded}
 use Rattle.asm_values.specs.State.{Placed}

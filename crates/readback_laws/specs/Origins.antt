@@ -14,6 +14,7 @@ use Rattle.section_laws.specs.Within.{AreWithin}
 use Rattle.asm_values.specs.State.{Placed, nothing_placed}
 use Rattle.asm_place.specs.Instructions.{Grows}
 use Rattle.asm_place.specs.Sources.{place_all}
+use Rattle.elf_object.specs.Faults.{object_fault}
 use Rattle.elf_object.specs.Image.{image_of}
 
 -- THE TABLES
@@ -46,7 +47,7 @@ pub record IsContinuedBy (whole : Placed) (tables : Tables) : Type 0 where
 -- THE OBJECT
 
 -- what the object of the statements that are handed out is made of: they are all placed, the frame table of their procedures, or of the frames that were
--- worked out, comes to what they place, their line table behind that, and all is laid out
+-- worked out, comes to what they place, their line table behind that, all is laid out, and no field or symbol of it is at fault
 pub record Origin (no_warn : Bool) (worked_out : Option (List Frame)) (handed : List TokenStatement) (object : List ℕ) : Type 0 where
   pub whole : Placed
   pub framed : Tables
@@ -56,6 +57,7 @@ pub record Origin (no_warn : Bool) (worked_out : Option (List Frame)) (handed : 
   pub frames : framed_of (with_worked_out worked_out whole) ≡ Ok framed
   pub lines : line_table.placed whole.lines framed ≡ Ok tables
   pub settles : layout_of tables.symbols tables.sections ≡ Ok laid
+  pub faultless : object_fault tables.symbols laid ≡ None
   pub image : object ≡ image_of tables.symbols laid
 
 -- the statement is handed out, and those before it place this

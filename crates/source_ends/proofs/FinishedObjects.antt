@@ -39,6 +39,11 @@ image_is : (fault : Option ObjectCause) (image made : List ℕ) → unless fault
 image_is None image made e = cc
 image_is (Some fault) image made e = absurd cc
 
+-- and no fault is found
+no_fault : (fault : Option ObjectCause) (image made : List ℕ) → unless fault image ≡ Ok made → fault ≡ None
+no_fault None image made e = refl
+no_fault (Some fault) image made e = absurd cc
+
 -- the layout of an object
 laid_is : (fatal : Bool) (table : Table) (notes : List Noted) (answer : Result LaidSections LayoutFault) (made : List ℕ) → laid_end fatal table notes answer ≡ Ok made
     → (laid : LaidSections) × (answer ≡ Ok laid) × (object_of table.symbols laid ≡ Ok made)
@@ -91,6 +96,7 @@ finished_is fatal functions whole notes made e =
       laid = laid.0;
       settles = laid.1;
       is_object = laid.2;
+      faultless = no_fault (object_fault table.0.symbols laid.0) (image_of table.0.symbols laid.0) made.object laid.2;
       image = image_is (object_fault table.0.symbols laid.0) (image_of table.0.symbols laid.0) made.object laid.2;
     }
 

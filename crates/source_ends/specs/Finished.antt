@@ -1,9 +1,10 @@
 -- What the object at the end of a source is made of.
-use Rattle.std.specs.Prelude.{◌≡◌, ℕ, All, List, Ok}
+use Rattle.std.specs.Prelude.{◌≡◌, ℕ, All, List, None, Ok}
 use Rattle.asm_values.specs.State.{Placed}
 use Rattle.asm_relax.specs.Settling.{LaidSections, layout_of}
 use Rattle.table_pieces.specs.Pieces.{Tables}
 use Rattle.line_table.specs.Placing as line_table
+use Rattle.elf_object.specs.Faults.{object_fault}
 use Rattle.elf_object.specs.Objects.{object_of}
 use Rattle.elf_object.specs.Image.{image_of}
 use Rattle.asm_functions.specs.FollowedSource.{FollowedSource}
@@ -22,6 +23,7 @@ pub record IsFinished (whole : Placed) (object : List ℕ) : Type 0 where
   pub laid : LaidSections
   pub settles : layout_of tables.symbols tables.sections ≡ Ok laid
   pub is_object : object_of tables.symbols laid ≡ Ok object
+  pub faultless : object_fault tables.symbols laid ≡ None
   pub image : object ≡ image_of tables.symbols laid
 
 -- so it is with each object, where the frames that were worked out stand in place of procedures

@@ -10,9 +10,9 @@ use Rattle.x86_table.specs.declared.forms.Row.{Row}
 use Rattle.x86_table.specs.Bytes.{has_rex, bytes_of}
 use Rattle.x86_table.specs.Fields.{Fields}
 use Rattle.x86_table.specs.Reads.{shown, is_register, is_accumulator, change_places, meaning, Reads}
-use Rattle.x86_encode.specs.Codes.{last_of, reduced, plain_immediate}
+use Rattle.x86_parts.specs.Codes.{last_of, reduced, plain_immediate}
 use Rattle.x86_encode.specs.Exchanges.{turned, turned_if, exchanges}
-use Rattle.x86_encode.specs.Filling.{known_as, counted, valued, exact, ReadsAs}
+use Rattle.x86_parts.specs.Filling.{known_as, counted, valued, exact, ReadsAs}
 use Rattle.x86_encode.specs.Answers.{InOrder}
 use Rattle.x86_steps.specs.Fillings.{FillsNumber, FillsWhere, Fills, FillsView, is_counted}
 use Rattle.step_readings.specs.Filled.{IsPlain, IsPlainView}

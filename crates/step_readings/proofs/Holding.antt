@@ -6,7 +6,7 @@ use Rattle.std.specs.Int.{from_le_bytes, to_le_bytes, w16, w32, w64}
 use Rattle.x86_table.specs.Fits.{is_signed}
 use Rattle.x86_insn.specs.declared.amounts.FieldKind.{FieldKind}
 use Rattle.x86_insn.specs.declared.amounts.FieldKind.TheVariants as kind
-use Rattle.x86_encode.specs.Filling.{low_bytes}
+use Rattle.x86_parts.specs.Filling.{low_bytes}
 use Rattle.step_readings.specs.Held.{AreBytes, IsHeld, AnyBytesAreHeld}
 
 -- a number below 2 ^ n, sign-extended to 64 bits

@@ -4,7 +4,7 @@ use Rattle.item_bytes.specs.declared.jumps.Condition.{Condition}
 use Rattle.item_bytes.specs.Jumps.{number_of, jump_bytes, jump_distance}
 use Rattle.jump_laws.specs.JumpReadings.{jump_name, jump_over, JumpCodesRead}
 use Rattle.x86_table.specs.declared.mnemonics.integers.TheConstants.{MOV, MOVABS}
-use Rattle.x86_encode.specs.Codes.{meant}
+use Rattle.x86_parts.specs.Codes.{meant}
 use Rattle.x86_steps.specs.Fillings.{FillsView}
 use Rattle.step_readings.specs.Jumps.{jump_of, JumpsObey, LoadedJumpsAreJumps}
 use Rattle.step_readings.specs.Held.{AreBytes}

@@ -3,9 +3,9 @@ use Rattle.std.proofs.Common.{◌≡◌, ℕ, zero, suc, ◌+◌, ◌-◌, ◌<�
 use Rattle.std.proofs.lemmas.Bool.Decides.{nat_tests}
 use Rattle.std.proofs.lemmas.Grind.{same_number_lists}
 use Rattle.std.proofs.lemmas.List.{length-append, length-take-le, length-drop, get_or_append_left, get_or-append_right, get_or-take, get_or-drop}
-use Rattle.x86_encode.specs.declared.encoded.Field.{Field}
+use Rattle.x86_parts.specs.declared.encoded.Field.{Field}
 use Rattle.x86_encode.specs.FieldPlaces.{IsWidth, AreApart, Apart, EncodingsApart}
-use Rattle.x86_encode.specs.Filling.{Coding, low_bytes, filled, valued}
+use Rattle.x86_parts.specs.Filling.{Coding, low_bytes, filled, valued}
 use Rattle.x86_steps.specs.Leading.{distance_of}
 use Rattle.step_readings.specs.Obeying.{IsObeyed}
 use Rattle.step_readings.specs.Filled.{EncodingsObey}

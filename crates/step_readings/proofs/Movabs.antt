@@ -8,7 +8,7 @@ use Rattle.x86_insn.specs.Views.{Seen, absent, register, immediate, memory, targ
 use Rattle.x86_lookup.specs.Writing.{is_repeat}
 use Rattle.x86_table.specs.declared.mnemonics.integers.TheConstants.{MOV, MOVABS}
 use Rattle.x86_table.specs.Rows.{the_rows}
-use Rattle.x86_encode.specs.Codes.{class_number, is_quad, is_wide, meant}
+use Rattle.x86_parts.specs.Codes.{class_number, is_quad, is_wide, meant}
 use Rattle.insn_effects.specs.Actions.{Action, other, nowhere}
 use Rattle.insn_effects.specs.Decoding.{action_of}
 use Rattle.insn_effects.specs.Effects.{written_effect, effect_of}

@@ -9,9 +9,9 @@ use Rattle.x86_insn.specs.declared.amounts.Values.{Values}
 use Rattle.x86_insn.specs.Views.{Seen, absent, register, immediate, memory, target, View, displaced, seen_at}
 use Rattle.x86_table.specs.Reads.{Reads}
 use Rattle.x86_encode.specs.Answers.{Fills as FillsCoding}
-use Rattle.x86_encode.specs.Codes.{meant}
+use Rattle.x86_parts.specs.Codes.{meant}
 use Rattle.x86_encode.specs.EncodingLaws.{EncodingsFill}
-use Rattle.x86_encode.specs.Filling.{filled}
+use Rattle.x86_parts.specs.Filling.{filled}
 use Rattle.insn_effects.specs.Decoding.{action_of}
 use Rattle.insn_effects.specs.Flows.{flow_of}
 use Rattle.x86_steps.specs.States.{State}

@@ -3,7 +3,7 @@ use Rattle.std.proofs.Common.{◌≡◌, ℕ, ◌-◌, ◌^◌, ◌==◌, ◌&&�
 use Rattle.std.proofs.lemmas.Bool.Decides.{nat_tests}
 use Rattle.x86_table.specs.declared.forms.Row.{Row}
 use Rattle.x86_table.specs.Rows.{the_rows}
-use Rattle.x86_encode.specs.Codes.{last_of}
+use Rattle.x86_parts.specs.Codes.{last_of}
 use Rattle.x86_steps.specs.Fillings.{is_counted}
 
 -- where an immediate is_counted, it has 64 bits

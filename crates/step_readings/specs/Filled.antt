@@ -4,9 +4,9 @@ use Rattle.x86_insn.specs.declared.insns.Insn.{Insn}
 use Rattle.x86_insn.specs.declared.amounts.Values.{Values}
 use Rattle.x86_insn.specs.Views.{Seen, absent, register, immediate, memory, target, View, displaced, view_of}
 use Rattle.x86_encode.specs.Answers.{InOrder}
-use Rattle.x86_encode.specs.Codes.{meant}
+use Rattle.x86_parts.specs.Codes.{meant}
 use Rattle.x86_encode.specs.Encoding.{encoding_of}
-use Rattle.x86_encode.specs.Filling.{Coding, field_holds, filled, valued, ReadsAs}
+use Rattle.x86_parts.specs.Filling.{Coding, field_holds, filled, valued, ReadsAs}
 use Rattle.x86_steps.specs.Leading.{distance_of}
 use Rattle.step_readings.specs.Obeying.{IsObeyed}
 

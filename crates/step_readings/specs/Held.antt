@@ -2,7 +2,7 @@
 use Rattle.std.specs.Prelude.{◌≡◌, ◌<◌, ◌^◌, ℕ, true, List, length, get_or}
 use Rattle.x86_insn.specs.declared.amounts.FieldKind.{FieldKind}
 use Rattle.x86_encode.specs.FieldPlaces.{IsWidth}
-use Rattle.x86_encode.specs.Filling.{kind_holds, low_bytes}
+use Rattle.x86_parts.specs.Filling.{kind_holds, low_bytes}
 
 -- each is a byte
 abbrev pub AreBytes : List ℕ → Type 0

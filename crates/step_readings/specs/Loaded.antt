@@ -2,10 +2,10 @@
 use Rattle.std.specs.Prelude.{◌≡◌, ◌<◌, ◌≤◌, ◌+◌, ◌^◌, ◌⊎◌, ◌++◌, ℕ, true, List, Option, None, Some, drop, take, length, get_or, Ok}
 use Rattle.x86_insn.specs.declared.amounts.Values.{Values}
 use Rattle.x86_insn.specs.Views.{View}
-use Rattle.x86_encode.specs.declared.encoded.Field.{Field}
+use Rattle.x86_parts.specs.declared.encoded.Field.{Field}
 use Rattle.x86_encode.specs.Encoding.{encoding_of}
 use Rattle.x86_encode.specs.FieldPlaces.{AreApart}
-use Rattle.x86_encode.specs.Filling.{Coding, field_holds, low_bytes, filled, valued}
+use Rattle.x86_parts.specs.Filling.{Coding, field_holds, low_bytes, filled, valued}
 use Rattle.x86_steps.specs.Leading.{distance_of}
 use Rattle.step_readings.specs.Obeying.{IsObeyed}
 use Rattle.step_readings.specs.Filled.{IsPlainView}

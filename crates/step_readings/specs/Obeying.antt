@@ -5,7 +5,7 @@ use Rattle.x86_table.specs.Reads.{Reads}
 use Rattle.insn_effects.specs.Decoding.{action_of}
 use Rattle.insn_effects.specs.Effects.{effect_of}
 use Rattle.insn_effects.specs.Flows.{flow_of, is_unsupported}
-use Rattle.x86_encode.specs.Codes.{meant}
+use Rattle.x86_parts.specs.Codes.{meant}
 use Rattle.x86_steps.specs.States.{State, IsRanged}
 use Rattle.x86_steps.specs.Steps.{Does}
 use Rattle.x86_steps.specs.Acts.{Acts}

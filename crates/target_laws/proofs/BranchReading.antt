@@ -13,9 +13,9 @@ use Rattle.assigned_forms.specs.Linked.{linked}
 use Rattle.x86_insn.specs.declared.amounts.FieldKind.TheVariants as kind
 use Rattle.x86_insn.specs.declared.amounts.Suffix.TheVariants.{Plt}
 use Rattle.x86_insn.specs.Views.{Seen, target, View}
-use Rattle.x86_encode.specs.declared.encoded.Field.{Field as CodedField}
+use Rattle.x86_parts.specs.declared.encoded.Field.{Field as CodedField}
 use Rattle.x86_encode.specs.FieldPlaces.{AreApart, Apart, EncodingsApart}
-use Rattle.x86_encode.specs.Filling.{Coding, field_holds, kind_holds, low_bytes as bytes_of_low, valued}
+use Rattle.x86_parts.specs.Filling.{Coding, field_holds, kind_holds, low_bytes as bytes_of_low, valued}
 use Rattle.insn_effects.specs.Flows.{jumps, flow_of}
 use Rattle.x86_steps.specs.Leading.{distance_of}
 use Rattle.step_readings.specs.Filled.{IsPlain, IsPlainView}

@@ -9,7 +9,7 @@ use Rattle.asm_frags.specs.Fields.{width, fits_signed, low_bytes}
 use Rattle.asm_place.specs.Coding.{field_size}
 use Rattle.x86_insn.specs.declared.amounts.FieldKind.TheVariants as kind
 use Rattle.x86_encode.specs.FieldPlaces.{IsWidth}
-use Rattle.x86_encode.specs.Filling.{kind_holds, low_bytes as bytes_of_low}
+use Rattle.x86_parts.specs.Filling.{kind_holds, low_bytes as bytes_of_low}
 
 -- the low bytes of a value are those of its remainder
 two_bytes : (v : ℕ) → low_bytes Two v ≡ to_le_bytes w16 (v % 2 ^ 16)

@@ -14,14 +14,14 @@ use Rattle.x86_table.specs.Bytes.{has_rex, bytes_of}
 use Rattle.x86_table.specs.Fields.{Location, nowhere, direct, from_rip, bare, based, Fields}
 use Rattle.x86_table.specs.Reads.{from_start, shown, is_register, is_accumulator}
 use Rattle.x86_table.specs.Rows.{the_rows}
-use Rattle.x86_encode.specs.declared.encoded.Field.{Field as CodedField}
+use Rattle.x86_parts.specs.declared.encoded.Field.{Field as CodedField}
 use Rattle.x86_encode.specs.Answers.{Notes}
-use Rattle.x86_encode.specs.Codes.{normal, meant}
+use Rattle.x86_parts.specs.Codes.{normal, meant}
 use Rattle.x86_encode.specs.Encoding.{encoding_of}
 use Rattle.x86_encode.specs.EncodingLaws.{is_absent, EncodingsNote}
 use Rattle.x86_encode.specs.Exchanges.{exchanges, turned}
-use Rattle.x86_encode.specs.Filling.{Coding, kind_of, held_field, Noted}
-use Rattle.x86_encode.specs.Keys.{immediate_length}
+use Rattle.x86_parts.specs.Filling.{Coding, kind_of, held_field, Noted}
+use Rattle.x86_parts.specs.Keys.{immediate_length}
 
 -- a branch target
 abbrev is_target : Pattern → Bool

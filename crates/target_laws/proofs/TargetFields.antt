@@ -7,14 +7,14 @@ use Rattle.x86_insn.specs.declared.insns.Slot.{Slot}
 use Rattle.x86_insn.specs.declared.insns.Slot.TheVariants as slot
 use Rattle.x86_insn.specs.Views.{Seen, absent, target, View}
 use Rattle.x86_table.specs.declared.mnemonics.integers.TheConstants.{CALL, HLT, JMP, RET, UD2}
-use Rattle.x86_encode.specs.declared.encoded.Field.{Field as CodedField}
-use Rattle.x86_encode.specs.declared.encoded.Position.{Position}
-use Rattle.x86_encode.specs.declared.encoded.Position.TheVariants as position
+use Rattle.x86_parts.specs.declared.encoded.Field.{Field as CodedField}
+use Rattle.x86_parts.specs.declared.encoded.Position.{Position}
+use Rattle.x86_parts.specs.declared.encoded.Position.TheVariants as position
 use Rattle.x86_encode.specs.Answers.{Placed as FieldsPlaced}
-use Rattle.x86_encode.specs.Codes.{meant}
+use Rattle.x86_parts.specs.Codes.{meant}
 use Rattle.x86_encode.specs.EncodingLaws.{EncodingsPlace, EncodingsNote}
 use Rattle.x86_encode.specs.FieldPlaces.{lacks_number, any_operand, HoldUnknown, Unknown, EncodingsHoldUnknown}
-use Rattle.x86_encode.specs.Filling.{Coding, FieldAt, in_memory, operand_in}
+use Rattle.x86_parts.specs.Filling.{Coding, FieldAt, in_memory, operand_in}
 use Rattle.insn_effects.specs.Decoding.{is_branch}
 use Rattle.att_insns.specs.InsnTexts.{InsnText}
 use Rattle.asm_place.specs.Coding.{view_in, seen_in}

@@ -18,11 +18,11 @@ use Rattle.x86_table.specs.Fits.{fields_fit, fits}
 use Rattle.x86_table.specs.Reads.{shown}
 use Rattle.x86_table.specs.Rows.{the_rows}
 use Rattle.x86_table.specs.declared.mnemonics.integers.TheConstants.{MOV, MOVABS}
-use Rattle.x86_encode.specs.Building.{is_held, is_low, is_reg, is_rm, chosen, pick, low_of, reg_of, rm_operand, held_in, wants_one, without_rex, built, same_operand, shows, takes}
-use Rattle.x86_encode.specs.Codes.{named, meant, normal}
-use Rattle.x86_encode.specs.Filling.{Coding}
+use Rattle.x86_parts.specs.Building.{is_held, is_low, is_reg, is_rm, chosen, pick, low_of, reg_of, rm_operand, held_in, wants_one, without_rex, built, same_operand, shows, takes}
+use Rattle.x86_parts.specs.Codes.{named, meant, normal}
+use Rattle.x86_parts.specs.Filling.{Coding}
 use Rattle.x86_lookup.specs.Keys.{has_bit}
-use Rattle.x86_encode.specs.Keys.{sorts, admits}
+use Rattle.x86_parts.specs.Keys.{sorts, admits}
 use Rattle.x86_encode.specs.Encoding.{RowAt, RowCoding, coding_by, coding_of, coding_at, encoding_by, encoding_of, ordered_coding, shortest_row}
 use Rattle.x86_encode.specs.EncodingLaws.{is_absent, is_bare, no_fields, IsBareAs}
 use Rattle.x86_encode.proofs.Best.{some_is}

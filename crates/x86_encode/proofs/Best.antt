@@ -6,8 +6,8 @@ use Rattle.x86_insn.specs.Views.{View}
 use Rattle.x86_table.specs.Bytes.{bytes_of}
 use Rattle.x86_table.specs.Fits.{fits}
 use Rattle.x86_table.specs.Rows.{the_rows}
-use Rattle.x86_encode.specs.Building.{built, takes, is_shaped, all_shaped}
-use Rattle.x86_encode.specs.Codes.{Means, OrderedCodes, AtMost, Before}
+use Rattle.x86_parts.specs.Building.{built, takes, is_shaped, all_shaped}
+use Rattle.x86_parts.specs.Codes.{Means, OrderedCodes, AtMost, Before}
 use Rattle.x86_encode.proofs.Complete.{takes_all}
 
 pub at_most_same : (xs : List ℕ) → AtMost xs xs

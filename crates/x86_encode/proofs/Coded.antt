@@ -4,18 +4,18 @@ use Rattle.x86_table.specs.declared.forms.Row.{Row}
 use Rattle.x86_table.specs.declared.parts.Parts.{Parts}
 use Rattle.x86_table.specs.declared.parts.Place.{Place}
 use Rattle.x86_table.specs.declared.parts.Place.TheVariants as place
-use Rattle.x86_encode.specs.declared.searching.Found.{Found}
+use Rattle.x86_parts.specs.declared.found.Found.{Found}
 use Rattle.x86_encode.specs.declared.making.Made.{Made}
-use Rattle.x86_encode.specs.declared.encoded.Field.{Field}
+use Rattle.x86_parts.specs.declared.encoded.Field.{Field}
 use Rattle.x86_insn.specs.Views.{View}
 use Rattle.x86_table.specs.Bytes.{bytes_of}
 use Rattle.x86_table.specs.Fields.{Location, nowhere, direct, from_rip, bare, based, Fields, located, fields_of}
 use Rattle.x86_table.specs.Rows.{the_rows}
-use Rattle.x86_encode.specs.Building.{built}
-use Rattle.x86_encode.specs.Codes.{HasNoOrderedCode}
+use Rattle.x86_parts.specs.Building.{built}
+use Rattle.x86_parts.specs.Codes.{HasNoOrderedCode}
 use Rattle.x86_encode.specs.Exchanges.{turned, exchanges}
-use Rattle.x86_encode.specs.Filling.{Coding, moved_field, held_field, in_memory, holds_number}
-use Rattle.x86_encode.specs.Keys.{immediate_length}
+use Rattle.x86_parts.specs.Filling.{Coding, moved_field, held_field, in_memory, holds_number}
+use Rattle.x86_parts.specs.Keys.{immediate_length}
 use Rattle.x86_encode.specs.Encoding.{RowAt, size_by, shortest_row, RowCoding, turned_field, position_of, coding_by, coding_at, ordered_coding, turned_coding, is_earlier, earlier, own_coding, other_coding, coding_of, made_at, MakesAs}
 use Rattle.x86_encode.proofs.Filled.{taking_fills, taking_notes}
 use Rattle.x86_encode.proofs.Positions.{moved_placed, held_placed}

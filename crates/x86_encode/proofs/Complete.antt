@@ -15,8 +15,8 @@ use Rattle.x86_table.specs.Bytes.{rex_bits, has_rex, bytes_of}
 use Rattle.x86_table.specs.Fields.{Location, nowhere, direct, from_rip, bare, based, Fields}
 use Rattle.x86_table.specs.Fits.{is_byte, is_middle, is_middle_place, wants_rex, rex_fits, fits}
 use Rattle.x86_table.specs.Reads.{register_shown, from_start, place_shown, shown}
-use Rattle.x86_encode.specs.Building.{wants, without_rex, built, shows, takes, is_shaped}
-use Rattle.x86_encode.specs.Codes.{plain_memory, normal, Means}
+use Rattle.x86_parts.specs.Building.{wants, without_rex, built, shows, takes, is_shaped}
+use Rattle.x86_parts.specs.Codes.{plain_memory, normal, Means}
 use Rattle.x86_encode.proofs.Equal.{seen_test, seen_is}
 use Rattle.x86_encode.proofs.Fitted.{fit_of}
 use Rattle.x86_encode.proofs.Least.{least, relaid, relaid_bits, relaid_size, relaid_fits}

@@ -3,14 +3,14 @@ use Rattle.std.proofs.Common.{◌≡◌, ◌^◌, ◌||◌, ◌∙◌, Bool, Non
 use Rattle.x86_insn.specs.declared.insns.Mnemonic.{Mnemonic}
 use Rattle.x86_insn.specs.declared.insns.Insn.{Insn}
 use Rattle.x86_insn.specs.declared.amounts.Values.{Values}
-use Rattle.x86_encode.specs.declared.encoded.EncodeFault.{EncodeFault}
+use Rattle.x86_parts.specs.declared.encoded.EncodeFault.{EncodeFault}
 use Rattle.x86_insn.specs.Views.{View, view_of}
 use Rattle.x86_table.specs.Reads.{is_known}
 use Rattle.x86_encode.specs.Answers.{Encodes, Fills, Notes, Placed}
-use Rattle.x86_encode.specs.Codes.{named, name_meant, meant}
+use Rattle.x86_parts.specs.Codes.{named, name_meant, meant}
 use Rattle.x86_encode.specs.Encoding.{RowCoding, coding_of, is_coded, is_coded_with, is_form, unknown_fault, value_fault, fault_by, fault_of, encoding_by, encoding_of}
 use Rattle.x86_encode.specs.Faults.{with_values, Coded, HasForm, Causes, HasCause}
-use Rattle.x86_encode.specs.Filling.{Coding}
+use Rattle.x86_parts.specs.Filling.{Coding}
 use Rattle.x86_encode.proofs.Coded.{coding_answers}
 use Rattle.x86_encode.proofs.Forms.{form_by, none_unknown}
 use Rattle.x86_encode.proofs.Search.{meant_is}

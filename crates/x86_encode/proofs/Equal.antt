@@ -12,8 +12,8 @@ use Rattle.x86_insn.specs.declared.registers.Class.TheVariants as class
 use Rattle.x86_insn.specs.declared.insns.Index.TheVariants as index
 use Rattle.x86_insn.specs.declared.insns.Segment.TheVariants as segment
 use Rattle.x86_insn.specs.Views.{Seen, absent, register, immediate as shown_immediate, memory, target}
-use Rattle.x86_encode.specs.Building.{same_value, segment_number, same_base, same_index, same_memory, same_reg, same_operand}
-use Rattle.x86_encode.specs.Codes.{class_number}
+use Rattle.x86_parts.specs.Building.{same_value, segment_number, same_base, same_index, same_memory, same_reg, same_operand}
+use Rattle.x86_parts.specs.Codes.{class_number}
 
 class_same : (c : Class) → (class_number c == class_number c) ≡ true
 class_same c = eq-eqb (class_number c) (class_number c) refl

@@ -14,18 +14,18 @@ use Rattle.x86_table.specs.declared.parts.Width.{Width}
 use Rattle.x86_table.specs.declared.parts.Width.TheVariants as of_width
 use Rattle.x86_table.specs.Fields.{Location, nowhere, direct, from_rip, bare, based, Fields}
 use Rattle.x86_table.specs.Fits.{is_nowhere, index_fits, sib_fits, mode_fits, displacement_fits, some_place_fits, rm_fits, place_fits, immediate_fits}
-use Rattle.x86_encode.specs.declared.encoded.EncodeFault.{EncodeFault}
-use Rattle.x86_encode.specs.declared.encoded.Field.{Field}
-use Rattle.x86_encode.specs.declared.encoded.Position.{Position}
+use Rattle.x86_parts.specs.declared.encoded.EncodeFault.{EncodeFault}
+use Rattle.x86_parts.specs.declared.encoded.Field.{Field}
+use Rattle.x86_parts.specs.declared.encoded.Position.{Position}
 use Rattle.x86_insn.specs.declared.amounts.FieldKind.{FieldKind}
 use Rattle.x86_insn.specs.declared.amounts.FieldKind.TheVariants as kind
 use Rattle.x86_encode.specs.Answers.{Notes}
-use Rattle.x86_encode.specs.Codes.{meant}
+use Rattle.x86_parts.specs.Codes.{meant}
 use Rattle.x86_encode.specs.Encoding.{encoding_of}
 use Rattle.x86_encode.specs.Exchanges.{turned_if}
 use Rattle.x86_encode.specs.FieldPlaces.{IsWidth, IsLast, AreApart, Apart}
-use Rattle.x86_encode.specs.Filling.{Coding, moved_field, kind_of, held_field, Noted}
-use Rattle.x86_encode.specs.Keys.{place_length, modrm_length, immediate_length, length_by}
+use Rattle.x86_parts.specs.Filling.{Coding, moved_field, kind_of, held_field, Noted}
+use Rattle.x86_parts.specs.Keys.{place_length, modrm_length, immediate_length, length_by}
 use Rattle.x86_encode.proofs.Encodings.{notes}
 use Rattle.x86_encode.proofs.Fitted.{no_location, fit_of}
 use Rattle.x86_encode.proofs.Length.{length_is}

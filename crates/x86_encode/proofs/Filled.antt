@@ -3,19 +3,19 @@ use Rattle.std.proofs.Common.{◌≡◌, ◌-◌, ◌∙◌, List, Option, Some,
 use Rattle.std.proofs.lemmas.Bool.{and_parts}
 use Rattle.x86_table.specs.declared.forms.Row.{Row}
 use Rattle.x86_table.specs.declared.forms.Pattern.{Pattern}
-use Rattle.x86_encode.specs.declared.searching.Found.{Found}
-use Rattle.x86_encode.specs.declared.encoded.Field.{Field}
-use Rattle.x86_encode.specs.declared.encoded.Position.{Position}
+use Rattle.x86_parts.specs.declared.found.Found.{Found}
+use Rattle.x86_parts.specs.declared.encoded.Field.{Field}
+use Rattle.x86_parts.specs.declared.encoded.Position.{Position}
 use Rattle.x86_insn.specs.Views.{Seen, View}
 use Rattle.x86_table.specs.Bytes.{has_rex, bytes_of}
 use Rattle.x86_table.specs.Fields.{Fields, located, fields_of}
 use Rattle.x86_table.specs.Fits.{fits}
 use Rattle.x86_table.specs.Reads.{shown}
 use Rattle.x86_table.specs.Rows.{the_rows}
-use Rattle.x86_encode.specs.Codes.{normal, Means}
+use Rattle.x86_parts.specs.Codes.{normal, Means}
 use Rattle.x86_encode.specs.Faults.{kind_fits, kinds_fit}
-use Rattle.x86_encode.specs.Filling.{Coding, field_holds, filled, valued, exact, Shows, ReadsAs, moved_field, held_field, Noted}
-use Rattle.x86_encode.specs.Keys.{immediate_length}
+use Rattle.x86_parts.specs.Filling.{Coding, field_holds, filled, valued, exact, Shows, ReadsAs, moved_field, held_field, Noted}
+use Rattle.x86_parts.specs.Keys.{immediate_length}
 use Rattle.x86_encode.proofs.Complete.{taken}
 use Rattle.x86_encode.proofs.FilledBytes.{filled_bytes}
 use Rattle.x86_encode.proofs.FilledFields.{lowered, fill, fill_rex, fill_same_length, fill_fits, known_held, known_place}

@@ -7,15 +7,15 @@ use Rattle.x86_table.specs.declared.forms.Row.{Row}
 use Rattle.x86_table.specs.declared.forms.Immediate.{Immediate}
 use Rattle.x86_table.specs.declared.forms.Shape.{Shape}
 use Rattle.x86_table.specs.declared.parts.Width.{Width}
-use Rattle.x86_encode.specs.declared.encoded.Position.{Position}
+use Rattle.x86_parts.specs.declared.encoded.Position.{Position}
 use Rattle.x86_table.specs.declared.forms.Immediate.TheVariants as immediate
 use Rattle.x86_table.specs.declared.forms.Shape.TheVariants as shape
 use Rattle.x86_table.specs.declared.parts.Width.TheVariants as width
 use Rattle.x86_table.specs.Bytes.{opt, first_byte, size_byte, repeat_byte, lock_byte, rex_bits, rex_byte, escape_byte, second_escape, long, displacement_bytes, mod_of, rm_of, sib_bytes, place_displacement, modrm_bytes, immediate_bytes, bytes_of}
 use Rattle.x86_table.specs.Fields.{Location, nowhere, direct, from_rip, bare, based, Fields}
 use Rattle.x86_table.specs.Fits.{displacement_fits, index_fits, sib_fits, mode_fits, some_place_fits, rm_fits, is_nowhere, place_fits, immediate_fits, fits}
-use Rattle.x86_encode.specs.Filling.{low_bytes, filled, known_as, moved_field, held_field}
-use Rattle.x86_encode.specs.Keys.{immediate_length}
+use Rattle.x86_parts.specs.Filling.{low_bytes, filled, known_as, moved_field, held_field}
+use Rattle.x86_parts.specs.Keys.{immediate_length}
 use Rattle.x86_encode.proofs.FilledFields.{fill_place, lowered, fill, fill_bits}
 use Rattle.x86_encode.proofs.Fitted.{fit_of}
 use Rattle.x86_encode.proofs.Length.{immediate_is}

@@ -12,7 +12,7 @@ use Rattle.x86_table.specs.declared.forms.Shape.{Shape}
 use Rattle.x86_table.specs.declared.forms.Pattern.{Pattern}
 use Rattle.x86_table.specs.declared.forms.Words.{Words}
 use Rattle.x86_table.specs.declared.parts.Width.{Width}
-use Rattle.x86_encode.specs.declared.encoded.Position.{Position}
+use Rattle.x86_parts.specs.declared.encoded.Position.{Position}
 use Rattle.x86_table.specs.declared.forms.Immediate.TheVariants as immediate
 use Rattle.x86_table.specs.declared.forms.Pattern.TheVariants as pattern
 use Rattle.x86_insn.specs.declared.insns.Prefix.TheVariants as prefix
@@ -23,8 +23,8 @@ use Rattle.x86_table.specs.Bytes.{place_x, place_b, rex_bits, has_rex, bytes_of}
 use Rattle.x86_table.specs.Fields.{Location, nowhere, direct, from_rip, bare, based, Fields}
 use Rattle.x86_table.specs.Fits.{is_signed, long_fits, displacement_fits, index_fits, sib_fits, mode_fits, some_place_fits, is_memory, rm_fits, is_nowhere, place_fits, immediate_fits, is_byte, is_middle_place, wants_rex, rex_fits, segment_fits, may_lock, prefix_fits, fields_fit, fits}
 use Rattle.x86_table.specs.Reads.{is_known, is_known_place}
-use Rattle.x86_encode.specs.Filling.{field_holds, known_as, moved_field, held_field}
-use Rattle.x86_encode.specs.Keys.{place_length, modrm_length, length_by}
+use Rattle.x86_parts.specs.Filling.{field_holds, known_as, moved_field, held_field}
+use Rattle.x86_parts.specs.Keys.{place_length, modrm_length, length_by}
 use Rattle.x86_encode.proofs.Fitted.{fit_of, fit_size}
 use Rattle.x86_encode.proofs.Length.{length_is}
 

@@ -6,7 +6,7 @@ use Rattle.x86_insn.specs.declared.insns.Segment.{Segment}
 use Rattle.x86_insn.specs.declared.insns.Base.{Base}
 use Rattle.x86_table.specs.declared.forms.Immediate.{Immediate}
 use Rattle.x86_table.specs.declared.forms.Pattern.{Pattern}
-use Rattle.x86_encode.specs.declared.encoded.Position.{Position}
+use Rattle.x86_parts.specs.declared.encoded.Position.{Position}
 use Rattle.x86_insn.specs.declared.insns.Base.TheVariants as base
 use Rattle.x86_table.specs.declared.forms.Immediate.TheVariants as immediate
 use Rattle.x86_insn.specs.declared.insns.Index.TheVariants as index
@@ -15,9 +15,9 @@ use Rattle.x86_insn.specs.Views.{Seen, absent, register, immediate as shown_imme
 use Rattle.x86_table.specs.Fields.{Location, nowhere, direct, from_rip, bare, based, Fields}
 use Rattle.x86_table.specs.Fits.{is_signed, immediate_fits}
 use Rattle.x86_table.specs.Reads.{from_start, memory_shown, place_shown, shown}
-use Rattle.x86_encode.specs.Codes.{last_of, reduced, plain_immediate, plain_target, plain_memory, normal}
+use Rattle.x86_parts.specs.Codes.{last_of, reduced, plain_immediate, plain_target, plain_memory, normal}
 use Rattle.x86_encode.specs.Faults.{is_value, kind_fits}
-use Rattle.x86_encode.specs.Filling.{field_holds, known_as, counted, valued, exact, held_field}
+use Rattle.x86_parts.specs.Filling.{field_holds, known_as, counted, valued, exact, held_field}
 use Rattle.x86_encode.proofs.FilledFields.{fill_place, lowered, fill}
 use Rattle.x86_encode.proofs.Roles.{no_rip, start_none, target_none}
 

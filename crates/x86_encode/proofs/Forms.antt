@@ -11,7 +11,7 @@ use Rattle.x86_table.specs.declared.forms.Immediate.TheVariants as immediate
 use Rattle.x86_insn.specs.declared.insns.Slot.TheVariants as slot
 use Rattle.x86_insn.specs.Views.{immediate as shown_immediate, View, seen_at, view_of}
 use Rattle.x86_table.specs.Fits.{immediate_fits}
-use Rattle.x86_encode.specs.Codes.{last_of, reduced, is_quad, is_wide, named, name_meant, meant}
+use Rattle.x86_parts.specs.Codes.{last_of, reduced, is_quad, is_wide, named, name_meant, meant}
 use Rattle.x86_encode.specs.Exchanges.{HasNoCode, HasCode}
 use Rattle.x86_encode.specs.Faults.{with_values, Coded, HasForm, is_value, is_full, kinds_fit}
 use Rattle.x86_encode.proofs.Nearest.{values_by}

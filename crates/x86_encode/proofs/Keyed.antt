@@ -22,10 +22,10 @@ use Rattle.x86_table.specs.Fields.{Location, nowhere, direct, from_rip, bare, ba
 use Rattle.x86_table.specs.Fits.{some_place_fits, is_memory, rm_fits, is_nowhere, place_fits, is_middle, is_no_segment, takes_none, may_rep, may_repe, may_repne, may_lock, may_notrack, prefix_fits}
 use Rattle.x86_table.specs.Reads.{register_shown, from_start, place_shown, shown}
 use Rattle.x86_table.specs.Rows.{the_rows}
-use Rattle.x86_encode.specs.Building.{built, takes}
-use Rattle.x86_encode.specs.Codes.{plain_immediate, plain_target, plain_memory, normal}
+use Rattle.x86_parts.specs.Building.{built, takes}
+use Rattle.x86_parts.specs.Codes.{plain_immediate, plain_target, plain_memory, normal}
 use Rattle.x86_lookup.specs.Keys.{the_keys, either, register_sort, register_sorts, first_sort, has_bit}
-use Rattle.x86_encode.specs.Keys.{immediate_sort, sort, place_sorts, sorts, words_of, key_of, has_word, admits}
+use Rattle.x86_parts.specs.Keys.{immediate_sort, sort, place_sorts, sorts, words_of, key_of, has_word, admits}
 use Rattle.x86_encode.proofs.Complete.{taken}
 use Rattle.x86_encode.proofs.Fitted.{fit_of}
 

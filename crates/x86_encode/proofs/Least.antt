@@ -21,7 +21,7 @@ use Rattle.x86_table.specs.declared.parts.Width.TheVariants as width
 use Rattle.x86_table.specs.Bytes.{opt, first_byte, size_byte, repeat_byte, lock_byte, place_x, place_b, rex_bits, rex_byte, escape_byte, second_escape, displacement_bytes, based_sib, place_bytes, modrm_bytes, immediate_bytes, bytes_of}
 use Rattle.x86_table.specs.Fields.{Location, nowhere, direct, from_rip, bare, based, Fields}
 use Rattle.x86_table.specs.Fits.{is_signed, displacement_fits, index_fits, sib_fits, mode_fits, some_place_fits, is_memory, rm_fits, is_nowhere, place_fits, is_byte, is_middle_place, wants_rex, rex_fits, segment_fits, may_lock, prefix_fits, fields_fit, fits}
-use Rattle.x86_encode.specs.Building.{needs_sib, least_width}
+use Rattle.x86_parts.specs.Building.{needs_sib, least_width}
 use Rattle.x86_encode.proofs.Fitted.{Fit, fit_of, fit_size}
 
 -- THE LEAST PLACE

@@ -12,7 +12,7 @@ use Rattle.x86_table.specs.declared.forms.Shape.TheVariants as shape
 use Rattle.x86_table.specs.declared.parts.Width.TheVariants as width
 use Rattle.x86_table.specs.Bytes.{opt, first_byte, size_byte, repeat_byte, lock_byte, bit, rex_bits, rex_byte, escape_byte, second_escape, displacement_bytes, based_sib, place_bytes, modrm_bytes, immediate_bytes, bytes_of}
 use Rattle.x86_table.specs.Fields.{Location, nowhere, direct, from_rip, bare, based, Fields}
-use Rattle.x86_encode.specs.Keys.{count, width_length, sib_length, place_length, modrm_length, immediate_length, length_by, modrm_least, least_length}
+use Rattle.x86_parts.specs.Keys.{count, width_length, sib_length, place_length, modrm_length, immediate_length, length_by, modrm_least, least_length}
 
 opt_length : (o : Option ℕ) (xs : List ℕ) → length (opt o ++ xs) ≡ count o + length xs
 opt_length None xs = omega arith

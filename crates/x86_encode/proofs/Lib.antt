@@ -7,7 +7,6 @@ mod Complete
 mod Best
 mod Length
 mod Keyed
-mod Picks
 mod Search
 mod FilledFields
 mod FilledOperands

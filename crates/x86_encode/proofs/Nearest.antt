@@ -26,9 +26,9 @@ use Rattle.x86_table.specs.Bytes.{place_x, place_b, rex_bits, rex_byte, has_rex,
 use Rattle.x86_table.specs.Fields.{Location, nowhere, direct, from_rip, bare, based, Fields}
 use Rattle.x86_table.specs.Fits.{long_fits, displacement_fits, index_fits, sib_fits, mode_fits, some_place_fits, is_memory, rm_fits, is_nowhere, place_fits, is_byte, is_middle_place, wants_rex, rex_fits, segment_fits, fields_fit, fits}
 use Rattle.x86_table.specs.Reads.{from_start, place_shown, shown}
-use Rattle.x86_encode.specs.Codes.{plain_target, plain_memory, normal, HasOrderedCode, named}
-use Rattle.x86_encode.specs.Filling.{in_memory}
-use Rattle.x86_encode.specs.Keys.{count, width_length, place_length, modrm_length, length_by}
+use Rattle.x86_parts.specs.Codes.{plain_target, plain_memory, normal, HasOrderedCode, named}
+use Rattle.x86_parts.specs.Filling.{in_memory}
+use Rattle.x86_parts.specs.Keys.{count, width_length, place_length, modrm_length, length_by}
 use Rattle.x86_encode.proofs.FilledFields.{memory_prefix}
 use Rattle.x86_encode.proofs.Fitted.{fit_of, fit_size}
 use Rattle.x86_encode.proofs.Length.{length_is}

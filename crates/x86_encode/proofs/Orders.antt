@@ -8,8 +8,8 @@ use Rattle.x86_table.specs.declared.forms.Row.{Row}
 use Rattle.x86_insn.specs.declared.insns.Slot.TheVariants as slot
 use Rattle.x86_insn.specs.Views.{seen_at, view_of}
 use Rattle.x86_table.specs.Reads.{is_register, is_accumulator}
-use Rattle.x86_encode.specs.Building.{takes}
-use Rattle.x86_encode.specs.Codes.{HasOrderedCode, named}
+use Rattle.x86_parts.specs.Building.{takes}
+use Rattle.x86_parts.specs.Codes.{HasOrderedCode, named}
 use Rattle.x86_encode.specs.Exchanges.{turned, exchanges, HasCode}
 use Rattle.x86_encode.specs.Faults.{kinds_fit}
 use Rattle.x86_encode.proofs.Nearest.{values_by, with_zero}

@@ -5,18 +5,18 @@ use Rattle.x86_table.specs.declared.forms.Row.{Row}
 use Rattle.x86_table.specs.declared.forms.Immediate.{Immediate}
 use Rattle.x86_table.specs.declared.forms.Shape.{Shape}
 use Rattle.x86_table.specs.declared.forms.Pattern.{Pattern}
-use Rattle.x86_encode.specs.declared.searching.Found.{Found}
-use Rattle.x86_encode.specs.declared.encoded.Field.{Field}
-use Rattle.x86_encode.specs.declared.encoded.Position.{Position}
+use Rattle.x86_parts.specs.declared.found.Found.{Found}
+use Rattle.x86_parts.specs.declared.encoded.Field.{Field}
+use Rattle.x86_parts.specs.declared.encoded.Position.{Position}
 use Rattle.x86_table.specs.declared.forms.Immediate.TheVariants as immediate
 use Rattle.x86_table.specs.declared.forms.Pattern.TheVariants as pattern
 use Rattle.x86_table.specs.declared.forms.Shape.TheVariants as shape
 use Rattle.x86_insn.specs.Views.{Seen, absent, register, immediate as shown_immediate, memory, target, View}
 use Rattle.x86_table.specs.Fields.{Location, nowhere, direct, from_rip, bare, based, Fields, located}
 use Rattle.x86_table.specs.Fits.{is_memory}
-use Rattle.x86_encode.specs.Building.{is_rm, is_held, chosen, pick, held_of, rm_operand, held_in, place_of, without_rex, built}
-use Rattle.x86_encode.specs.Codes.{last_of, plain_immediate, plain_target, plain_memory, normal}
-use Rattle.x86_encode.specs.Filling.{moved_field, held_field, in_memory, holds_number, operand_in, position_by, FieldAt}
+use Rattle.x86_parts.specs.Building.{is_rm, is_held, chosen, pick, held_of, rm_operand, held_in, place_of, without_rex, built}
+use Rattle.x86_parts.specs.Codes.{last_of, plain_immediate, plain_target, plain_memory, normal}
+use Rattle.x86_parts.specs.Filling.{moved_field, held_field, in_memory, holds_number, operand_in, position_by, FieldAt}
 use Rattle.x86_encode.proofs.Search.{Taking}
 
 at_by : (test : Seen → Bool) (insn : View) (a b : Bool) → test insn.first ≡ a → test insn.second ≡ b → (test insn.first ≡ true) ⊎ ((test insn.second ≡ true) ⊎ (test insn.third ≡ true))

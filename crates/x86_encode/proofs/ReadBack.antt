@@ -18,10 +18,10 @@ use Rattle.x86_table.specs.Bytes.{has_rex, bytes_of}
 use Rattle.x86_table.specs.Fields.{Location, nowhere, direct, from_rip, bare, based, Fields}
 use Rattle.x86_table.specs.Fits.{is_signed, immediate_fits}
 use Rattle.x86_table.specs.Reads.{shown, is_register, is_accumulator, change_places, meaning, is_known, is_known_place, ReadsRow}
-use Rattle.x86_encode.specs.Building.{is_rm, is_held, chosen, pick, held_of, rm_operand, held_in, place_at, place_of}
-use Rattle.x86_encode.specs.Codes.{last_of, reduced, reduced_if, plain_immediate, plain_target, plain_memory, normal, Means, OrderedRow}
+use Rattle.x86_parts.specs.Building.{is_rm, is_held, chosen, pick, held_of, rm_operand, held_in, place_at, place_of}
+use Rattle.x86_parts.specs.Codes.{last_of, reduced, reduced_if, plain_immediate, plain_target, plain_memory, normal, Means, OrderedRow}
 use Rattle.x86_encode.specs.Exchanges.{turned, turned_if, exchanges, Codes}
-use Rattle.x86_encode.specs.Filling.{exact}
+use Rattle.x86_parts.specs.Filling.{exact}
 use Rattle.x86_encode.specs.Readings.{is_valued, all_valued, in_row, ReadsBack}
 use Rattle.x86_encode.proofs.Best.{shaped_at}
 use Rattle.x86_encode.proofs.Fitted.{fit_of}

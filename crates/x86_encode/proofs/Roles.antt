@@ -20,8 +20,8 @@ use Rattle.x86_table.specs.Bytes.{has_rex, bytes_of}
 use Rattle.x86_table.specs.Fields.{Location, nowhere, direct, from_rip, bare, based, Fields}
 use Rattle.x86_table.specs.Fits.{is_memory, place_fits, reg_fits, low_fits, immediate_fits, segment_fits}
 use Rattle.x86_table.specs.Reads.{register_shown, from_start, memory_shown, place_shown, shown}
-use Rattle.x86_encode.specs.Building.{is_rm, is_reg, is_low, is_held, chosen, pick, number_of, segment_of, held_of, reg_of, rm_operand, low_of, held_in, place_of, has, has_low, has_reg, has_rm, has_held, is_shaped}
-use Rattle.x86_encode.specs.Codes.{plain_target, plain_memory, normal, Means}
+use Rattle.x86_parts.specs.Building.{is_rm, is_reg, is_low, is_held, chosen, pick, number_of, segment_of, held_of, reg_of, rm_operand, low_of, held_in, place_of, has, has_low, has_reg, has_rm, has_held, is_shaped}
+use Rattle.x86_parts.specs.Codes.{plain_target, plain_memory, normal, Means}
 use Rattle.x86_encode.proofs.Fitted.{Fit, no_location}
 use Rattle.x86_encode.proofs.Least.{least}
 

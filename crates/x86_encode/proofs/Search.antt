@@ -5,7 +5,7 @@ use Rattle.std.proofs.lemmas.Option.{slice_get-get_or, slice_get_within}
 use Rattle.x86_insn.specs.declared.insns.Mnemonic.{Mnemonic}
 use Rattle.x86_table.specs.declared.forms.Row.{Row}
 use Rattle.x86_lookup.specs.declared.row_keys.Key.{Key}
-use Rattle.x86_encode.specs.declared.searching.Found.{Found}
+use Rattle.x86_parts.specs.declared.found.Found.{Found}
 use Rattle.x86_lookup.specs.declared.ranges.RowRange.{RowRange}
 use Rattle.x86_insn.specs.Views.{View}
 use Rattle.x86_table.specs.Bytes.{bytes_of}
@@ -13,11 +13,11 @@ use Rattle.x86_table.specs.Fields.{Fields, fields_of}
 use Rattle.x86_table.specs.Fits.{fields_fit, fits}
 use Rattle.x86_lookup.specs.Ranges.{IsWithin, is_sized, AreRowsOf}
 use Rattle.x86_table.specs.Rows.{the_rows}
-use Rattle.x86_encode.specs.Building.{pick, without_rex, built, shows, takes}
-use Rattle.x86_encode.specs.Codes.{OrderedCodes, Before, HasNoOrderedCode, named, name_meant, meant}
+use Rattle.x86_parts.specs.Building.{pick, without_rex, built, shows, takes}
+use Rattle.x86_parts.specs.Codes.{OrderedCodes, Before, HasNoOrderedCode, named, name_meant, meant}
 use Rattle.x86_encode.specs.Exchanges.{OrderedAt}
 use Rattle.x86_lookup.specs.Keys.{the_keys}
-use Rattle.x86_encode.specs.Keys.{length_by, least_length, key_of, admits, is_reached, BestSofar, Sofar, Steps, Best, Finds}
+use Rattle.x86_parts.specs.Keys.{length_by, least_length, key_of, admits, is_reached, BestSofar, Sofar, Steps, Best, Finds}
 use Rattle.x86_encode.proofs.Best.{some_is, misses, rest_longer, own_before, later_by, shorter_before, shaped_at}
 use Rattle.x86_encode.proofs.Complete.{taken}
 use Rattle.x86_encode.proofs.Keyed.{passed, key_at, as_many}

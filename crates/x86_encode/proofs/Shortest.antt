@@ -2,12 +2,12 @@
 use Rattle.std.proofs.Common.{◌≡◌, ◌<◌, ◌+◌, ◌==◌, ◌⊎◌, ◌∷◌, ◌∙◌, if◌then◌else◌, Bool, List, None, Option, Some, [], ap, arith, eq-eqb, false, inl, inr, length, nat_lt, refl, slice_get, subst, suc, sym, true, zero, ℕ}
 use Rattle.std.proofs.lemmas.Bool.{cases_order, cases_Bool, both_ways, ltb-true, ltb-false}
 use Rattle.x86_table.specs.declared.forms.Row.{Row}
-use Rattle.x86_encode.specs.declared.searching.Found.{Found}
+use Rattle.x86_parts.specs.declared.found.Found.{Found}
 use Rattle.x86_insn.specs.Views.{View}
 use Rattle.x86_table.specs.Bytes.{bytes_of}
 use Rattle.x86_table.specs.Rows.{the_rows}
-use Rattle.x86_encode.specs.Building.{built, takes}
-use Rattle.x86_encode.specs.Codes.{OrderedCodes, Before, HasNoOrderedCode}
+use Rattle.x86_parts.specs.Building.{built, takes}
+use Rattle.x86_parts.specs.Codes.{OrderedCodes, Before, HasNoOrderedCode}
 use Rattle.x86_encode.specs.Encoding.{RowAt, size_by, row_if, row_offered, shorter, shortest_of, shortest_row}
 use Rattle.x86_encode.proofs.Best.{misses, own_before, later_by, rest_longer, shaped_at, some_is}
 use Rattle.x86_encode.proofs.Complete.{taken}

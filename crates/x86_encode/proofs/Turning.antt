@@ -3,17 +3,17 @@ use Rattle.std.proofs.Common.{◌≡◌, ◌==◌, ◌&&◌, ◌||◌, ◌∷◌
 use Rattle.std.proofs.lemmas.Bool.{cases_order, eqb-true, both_ways, ltb-true, and_parts, or_cases, ltb-false}
 use Rattle.x86_insn.specs.declared.insns.Mnemonic.{Mnemonic}
 use Rattle.x86_table.specs.declared.forms.Immediate.{Immediate}
-use Rattle.x86_encode.specs.declared.encoded.Field.{Field}
-use Rattle.x86_encode.specs.declared.encoded.Position.{Position}
-use Rattle.x86_encode.specs.declared.encoded.Position.TheVariants as position
+use Rattle.x86_parts.specs.declared.encoded.Field.{Field}
+use Rattle.x86_parts.specs.declared.encoded.Position.{Position}
+use Rattle.x86_parts.specs.declared.encoded.Position.TheVariants as position
 use Rattle.x86_insn.specs.Views.{Seen, View}
 use Rattle.x86_table.specs.Fields.{Location, nowhere, direct, from_rip, bare, based}
 use Rattle.x86_table.specs.Reads.{is_register, is_accumulator}
 use Rattle.x86_encode.specs.Answers.{InOrder}
-use Rattle.x86_encode.specs.Codes.{OrderedCodes, AtMost, Before, HasNoOrderedCode, named}
+use Rattle.x86_parts.specs.Codes.{OrderedCodes, AtMost, Before, HasNoOrderedCode, named}
 use Rattle.x86_encode.specs.Encoding.{RowCoding, turned_position, turned_field, turned_coding, is_earlier}
 use Rattle.x86_encode.specs.Exchanges.{turned, exchanges, CodeAt, Codes, HasNoCode, OrderedAt, at_most}
-use Rattle.x86_encode.specs.Filling.{FieldsFill, field_holds, filled, moved_field, held_field, in_memory, holds_number, operand_in, FieldAt, Noted}
+use Rattle.x86_parts.specs.Filling.{FieldsFill, field_holds, filled, moved_field, held_field, in_memory, holds_number, operand_in, FieldAt, Noted}
 use Rattle.x86_table.specs.declared.mnemonics.integers.TheConstants.{XCHG}
 
 -- WHAT IS MADE

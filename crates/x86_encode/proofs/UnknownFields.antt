@@ -20,19 +20,19 @@ use Rattle.x86_table.specs.Bytes.{has_rex, bytes_of}
 use Rattle.x86_table.specs.Fields.{Location, nowhere, direct, from_rip, bare, based, Fields}
 use Rattle.x86_table.specs.Fits.{place_fits, immediate_fits}
 use Rattle.x86_table.specs.Reads.{memory_shown, place_shown, shown}
-use Rattle.x86_encode.specs.declared.encoded.EncodeFault.{EncodeFault}
-use Rattle.x86_encode.specs.declared.encoded.Field.{Field}
+use Rattle.x86_parts.specs.declared.encoded.EncodeFault.{EncodeFault}
+use Rattle.x86_parts.specs.declared.encoded.Field.{Field}
 use Rattle.x86_insn.specs.declared.amounts.FieldKind.TheVariants as kind
-use Rattle.x86_encode.specs.declared.encoded.Position.{Position}
+use Rattle.x86_parts.specs.declared.encoded.Position.{Position}
 use Rattle.x86_encode.specs.Answers.{Notes}
-use Rattle.x86_encode.specs.Building.{is_rm, is_held, has, has_low, has_reg, has_rm, has_held, is_low, is_reg, is_shaped}
-use Rattle.x86_encode.specs.Codes.{last_of, plain_immediate, plain_memory, normal, Means, meant}
+use Rattle.x86_parts.specs.Building.{is_rm, is_held, has, has_low, has_reg, has_rm, has_held, is_low, is_reg, is_shaped}
+use Rattle.x86_parts.specs.Codes.{last_of, plain_immediate, plain_memory, normal, Means, meant}
 use Rattle.x86_encode.specs.Encoding.{encoding_of}
 use Rattle.x86_encode.specs.Exchanges.{turned_if}
 use Rattle.x86_encode.specs.Faults.{is_value, kind_fits, kinds_fit}
 use Rattle.x86_encode.specs.FieldPlaces.{is_rip, lacks_number, lacks_displacement, any_operand, Unknown}
-use Rattle.x86_encode.specs.Filling.{Coding, moved_field, kind_of, held_field, Noted}
-use Rattle.x86_encode.specs.Keys.{immediate_length}
+use Rattle.x86_parts.specs.Filling.{Coding, moved_field, kind_of, held_field, Noted}
+use Rattle.x86_parts.specs.Keys.{immediate_length}
 use Rattle.x86_encode.proofs.Best.{shaped_at}
 use Rattle.x86_encode.proofs.Encodings.{notes}
 use Rattle.x86_encode.proofs.Fitted.{no_location, fit_of}

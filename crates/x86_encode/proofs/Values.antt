@@ -18,10 +18,10 @@ use Rattle.x86_table.specs.Fields.{Location, nowhere, direct, from_rip, bare, ba
 use Rattle.x86_table.specs.Fits.{immediate_fits, wants_rex, rex_fits, fields_fit, fits}
 use Rattle.x86_table.specs.Reads.{from_start, place_shown, shown}
 use Rattle.x86_table.specs.Rows.{the_rows}
-use Rattle.x86_encode.specs.Building.{held_of, takes}
-use Rattle.x86_encode.specs.Codes.{last_of, reduced, plain_immediate, normal, HasOrderedCode, named}
+use Rattle.x86_parts.specs.Building.{held_of, takes}
+use Rattle.x86_parts.specs.Codes.{last_of, reduced, plain_immediate, normal, HasOrderedCode, named}
 use Rattle.x86_encode.specs.Faults.{is_value, kind_fits, kinds_fit, all_kinds}
-use Rattle.x86_encode.specs.Keys.{length_by}
+use Rattle.x86_parts.specs.Keys.{length_by}
 use Rattle.x86_encode.proofs.Best.{some_is}
 use Rattle.x86_encode.proofs.Fitted.{fit_of, fit_size}
 use Rattle.x86_encode.proofs.Length.{length_is}

@@ -1,6 +1,6 @@
 -- The shortest bytes of an instruction, as the encoding computes them.
 use Rattle.std.proofs.Common.{◌≡◌, List, None, Option, Some, subst, ℕ}
-use Rattle.x86_encode.specs.declared.encoded.Field.{Field}
+use Rattle.x86_parts.specs.declared.encoded.Field.{Field}
 use Rattle.x86_insn.specs.Views.{View}
 use Rattle.x86_encode.specs.Encoding.{RowCoding, coding_of}
 use Rattle.x86_encode.specs.Exchanges.{IsCode, HasNoCode}

@@ -1,9 +1,9 @@
 -- What an encoder answers.
 use Rattle.std.specs.Prelude.{◌≡◌, Bool, Result, Ok, Err}
-use Rattle.x86_encode.specs.declared.encoded.EncodeFault.{EncodeFault}
+use Rattle.x86_parts.specs.declared.encoded.EncodeFault.{EncodeFault}
 use Rattle.x86_insn.specs.Views.{View}
 use Rattle.x86_encode.specs.Exchanges.{turned_if, exchanges, IsCode, HasNoCode}
-use Rattle.x86_encode.specs.Filling.{Coding, FieldsFill, in_memory, holds_number, FieldAt, Noted}
+use Rattle.x86_parts.specs.Filling.{Coding, FieldsFill, in_memory, holds_number, FieldAt, Noted}
 
 -- the order in which the instruction is shown, and what is so of it there
 abbrev pub InOrder : (View → Type 0) → View → Type 0

@@ -2,21 +2,21 @@
 use Rattle.std.specs.Prelude.{◌≡◌, ◌-◌, ◌^◌, ◌==◌, ◌||◌, ◌&&◌, ◌∷◌, if◌then◌else◌, Bool, List, None, Option, Some, [], false, is_some, length, nat_lt, option_map, suc, true, ℕ, Result, Ok, Err}
 use Rattle.x86_insn.specs.declared.amounts.Values.{Values}
 use Rattle.x86_table.specs.declared.forms.Row.{Row}
-use Rattle.x86_encode.specs.declared.encoded.Field.{Field}
-use Rattle.x86_encode.specs.declared.encoded.Position.{Position}
-use Rattle.x86_encode.specs.declared.encoded.Encoded.{Encoded}
-use Rattle.x86_encode.specs.declared.encoded.EncodeFault.{EncodeFault}
+use Rattle.x86_parts.specs.declared.encoded.Field.{Field}
+use Rattle.x86_parts.specs.declared.encoded.Position.{Position}
+use Rattle.x86_parts.specs.declared.encoded.Encoded.{Encoded}
+use Rattle.x86_parts.specs.declared.encoded.EncodeFault.{EncodeFault}
 use Rattle.x86_encode.specs.declared.making.Made.{Made}
-use Rattle.x86_encode.specs.declared.encoded.EncodeFault.TheVariants as fault
-use Rattle.x86_encode.specs.declared.encoded.Position.TheVariants as position
+use Rattle.x86_parts.specs.declared.encoded.EncodeFault.TheVariants as fault
+use Rattle.x86_parts.specs.declared.encoded.Position.TheVariants as position
 use Rattle.x86_insn.specs.Views.{Seen, View}
 use Rattle.x86_table.specs.Bytes.{bytes_of}
 use Rattle.x86_table.specs.Rows.{the_rows}
-use Rattle.x86_encode.specs.Building.{built, takes}
-use Rattle.x86_encode.specs.Codes.{meant}
+use Rattle.x86_parts.specs.Building.{built, takes}
+use Rattle.x86_parts.specs.Codes.{meant}
 use Rattle.x86_encode.specs.Exchanges.{turned, exchanges, at_most}
-use Rattle.x86_encode.specs.Filling.{Coding, moved_field, held_field, in_memory, holds_number, position_by}
-use Rattle.x86_encode.specs.Keys.{immediate_length}
+use Rattle.x86_parts.specs.Filling.{Coding, moved_field, held_field, in_memory, holds_number, position_by}
+use Rattle.x86_parts.specs.Keys.{immediate_length}
 
 -- THE ROW
 

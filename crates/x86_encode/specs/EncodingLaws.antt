@@ -11,7 +11,7 @@ use Rattle.x86_table.specs.Rows.{the_rows}
 use Rattle.x86_insn.specs.declared.amounts.Values.{Values}
 use Rattle.x86_insn.specs.Views.{absent, View, view_of}
 use Rattle.x86_encode.specs.Answers.{Encodes, Fills, Notes, Placed}
-use Rattle.x86_encode.specs.Codes.{meant}
+use Rattle.x86_parts.specs.Codes.{meant}
 use Rattle.x86_encode.specs.Encoding.{encoding_of}
 use Rattle.x86_encode.specs.Faults.{HasCause}
 

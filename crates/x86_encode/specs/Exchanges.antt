@@ -2,7 +2,7 @@
 use Rattle.std.specs.Prelude.{◌≡◌, ◌==◌, ◌&&◌, ◌||◌, ◌∷◌, Bool, List, [], false, nat_lt, true, ℕ}
 use Rattle.x86_insn.specs.Views.{View}
 use Rattle.x86_table.specs.Reads.{is_register, is_accumulator}
-use Rattle.x86_encode.specs.Codes.{OrderedCodes, Before}
+use Rattle.x86_parts.specs.Codes.{OrderedCodes, Before}
 use Rattle.x86_table.specs.declared.mnemonics.integers.TheConstants.{XCHG}
 
 -- the first two operands exchanged

@@ -5,15 +5,15 @@ use Rattle.x86_insn.specs.declared.amounts.Values.{Values}
 use Rattle.x86_table.specs.declared.forms.Row.{Row}
 use Rattle.x86_table.specs.declared.forms.Immediate.{Immediate}
 use Rattle.x86_table.specs.declared.forms.Pattern.{Pattern}
-use Rattle.x86_encode.specs.declared.encoded.EncodeFault.{EncodeFault}
-use Rattle.x86_encode.specs.declared.encoded.EncodeFault.TheVariants as fault
+use Rattle.x86_parts.specs.declared.encoded.EncodeFault.{EncodeFault}
+use Rattle.x86_parts.specs.declared.encoded.EncodeFault.TheVariants as fault
 use Rattle.x86_table.specs.declared.forms.Immediate.TheVariants as immediate
 use Rattle.x86_table.specs.declared.forms.Pattern.TheVariants as pattern
 use Rattle.x86_insn.specs.Views.{View, view_of}
 use Rattle.x86_table.specs.Reads.{is_known}
-use Rattle.x86_encode.specs.Codes.{meant}
+use Rattle.x86_parts.specs.Codes.{meant}
 use Rattle.x86_encode.specs.Exchanges.{HasNoCode, HasCode}
-use Rattle.x86_encode.specs.Filling.{Coding}
+use Rattle.x86_parts.specs.Filling.{Coding}
 use Rattle.x86_table.specs.declared.mnemonics.integers.TheConstants.{MOVABS}
 
 -- the instruction with these values in place of its own

@@ -4,12 +4,12 @@ use Rattle.x86_insn.specs.declared.amounts.Values.{Values}
 use Rattle.x86_insn.specs.declared.insns.Base.{Base}
 use Rattle.x86_insn.specs.declared.insns.Base.TheVariants as base
 use Rattle.x86_insn.specs.Views.{Seen, absent, register, immediate as shown_immediate, memory, target, View}
-use Rattle.x86_encode.specs.declared.encoded.EncodeFault.{EncodeFault}
-use Rattle.x86_encode.specs.declared.encoded.Field.{Field}
+use Rattle.x86_parts.specs.declared.encoded.EncodeFault.{EncodeFault}
+use Rattle.x86_parts.specs.declared.encoded.Field.{Field}
 use Rattle.x86_insn.specs.declared.amounts.FieldKind.TheVariants as kind
-use Rattle.x86_encode.specs.Codes.{meant}
+use Rattle.x86_parts.specs.Codes.{meant}
 use Rattle.x86_encode.specs.Encoding.{encoding_of}
-use Rattle.x86_encode.specs.Filling.{Coding}
+use Rattle.x86_parts.specs.Filling.{Coding}
 
 -- WHERE THEY STAND
 

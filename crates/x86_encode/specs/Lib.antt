@@ -1,9 +1,5 @@
 -- The definitions that contracts cite, in reading order.
-pub mod Codes
 pub mod Exchanges
-pub mod Building
-pub mod Keys
-pub mod Filling
 pub mod Encoding
 pub mod Answers
 pub mod Faults

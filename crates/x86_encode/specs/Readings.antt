@@ -5,9 +5,9 @@ use Rattle.x86_insn.specs.Views.{Seen, absent, register, immediate as shown_imme
 use Rattle.x86_table.specs.Bytes.{has_rex}
 use Rattle.x86_table.specs.Fields.{Fields}
 use Rattle.x86_table.specs.Reads.{shown, change_places, is_known, ReadsRow}
-use Rattle.x86_encode.specs.Codes.{OrderedRow}
+use Rattle.x86_parts.specs.Codes.{OrderedRow}
 use Rattle.x86_encode.specs.Exchanges.{turned_if, exchanges, Codes}
-use Rattle.x86_encode.specs.Filling.{exact}
+use Rattle.x86_parts.specs.Filling.{exact}
 
 -- the value of the operand is known; that of a branch target or of an address from rip never counts as known
 abbrev pub is_valued : Seen → Bool

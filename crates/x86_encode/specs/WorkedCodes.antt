@@ -7,7 +7,7 @@ use Rattle.x86_insn.specs.declared.insns.Base.TheVariants as base
 use Rattle.x86_insn.specs.declared.insns.Index.TheVariants as index
 use Rattle.x86_insn.specs.Views.{absent, register, immediate as shown_immediate, memory, target}
 use Rattle.x86_table.specs.WorkedReadings.{worked}
-use Rattle.x86_encode.specs.Codes.{meant}
+use Rattle.x86_parts.specs.Codes.{meant}
 use Rattle.x86_encode.specs.Exchanges.{IsCode, HasNoCode}
 use Rattle.x86_table.specs.declared.mnemonics.integers.TheConstants.{ADD, CALL, CMPXCHG, LEA, MOV, MOVZX_BYTE, PUSH, SHL, XCHG}
 use Rattle.x86_table.specs.declared.mnemonics.vectors.TheConstants.{ADDSD, CRC32, MOVBE, PEXTRW, PSHUFB, ROUNDSD}

@@ -4,13 +4,13 @@ use Rattle.x86_insn.specs.declared.registers.Class.TheVariants as class
 use Rattle.x86_insn.specs.declared.insns.Prefix.TheVariants as prefix
 use Rattle.x86_insn.specs.declared.insns.Base.TheVariants as base
 use Rattle.x86_insn.specs.declared.insns.Index.TheVariants as index
-use Rattle.x86_encode.specs.declared.encoded.EncodeFault.{EncodeFault}
-use Rattle.x86_encode.specs.declared.encoded.EncodeFault.TheVariants as fault
+use Rattle.x86_parts.specs.declared.encoded.EncodeFault.{EncodeFault}
+use Rattle.x86_parts.specs.declared.encoded.EncodeFault.TheVariants as fault
 use Rattle.x86_insn.specs.declared.amounts.FieldKind.TheVariants as kind
-use Rattle.x86_encode.specs.declared.encoded.Position.TheVariants as position
+use Rattle.x86_parts.specs.declared.encoded.Position.TheVariants as position
 use Rattle.x86_insn.specs.Views.{Seen, absent, register, immediate as shown_immediate, memory, target, View}
 use Rattle.x86_table.specs.WorkedReadings.{worked}
-use Rattle.x86_encode.specs.Filling.{Coding}
+use Rattle.x86_parts.specs.Filling.{Coding}
 use Rattle.x86_encode.specs.Encoding.{encoding_of}
 use Rattle.x86_table.specs.declared.mnemonics.integers.TheConstants.{ADD, CALL, LEA, MOV, SHL, XCHG}
 

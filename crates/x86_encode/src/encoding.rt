@@ -3,16 +3,14 @@
 ghost use Rattle.std.specs.Prelude.{◌≡◌, ◌==◌, ◌&&◌, true};
 ghost use Rattle.x86_insn.specs.Views.{view_of};
 ghost use Rattle.x86_encode.specs.Answers.{Encodes, Fills, Notes, Placed};
-ghost use Rattle.x86_encode.specs.Codes.{is_quad, is_wide, name_meant, meant};
+ghost use Rattle.x86_parts.specs.Codes.{is_quad, is_wide, name_meant, meant};
 ghost use Rattle.x86_encode.specs.Encoding.{is_coded, is_form, fault_of, encoding_of, answered, EncodesAs};
 ghost use Rattle.x86_encode.specs.Faults.{HasCause};
 
-use crate::building::laid_out;
-use crate::encoded::{EncodeFault, Encoded};
-use crate::immediates::is_signed_32;
 use crate::making::{encoded_of, exchanged, made_of};
-use crate::searching::{Found, shortest};
+use crate::searching::shortest;
 use x86_insn::{Class, Insn, Mnemonic, Slot, Values};
+use x86_parts::{EncodeFault, Encoded, Found, is_signed_32, laid_out};
 use x86_table::mnemonics::integers::{MOV, MOVABS, XCHG};
 
 /// Whether the value goes into a 64-bit register and 32 bits, sign-extended, do not hold it.

@@ -3,11 +3,11 @@
 ghost use Rattle.std.specs.Prelude.{◌≡◌, ◌<◌, ◌+◌};
 ghost use Rattle.x86_table.specs.Bytes.{first_byte, repeat_byte, lock_byte, bit, rex_bits, rex_byte, has_rex};
 ghost use Rattle.x86_table.specs.Fields.{located, fields_of};
-ghost use Rattle.x86_encode.specs.Keys.{count, width_length, place_length, modrm_length, immediate_length, length_by, modrm_least, least_length};
+ghost use Rattle.x86_parts.specs.Keys.{count, width_length, place_length, modrm_length, length_by, modrm_least, least_length};
 
-use crate::building::rex_bits;
 use x86_insn::{Prefix, Segment};
-use x86_table::{Immediate, Parts, Place, Repeat, Row, Shape, Width};
+use x86_parts::{immediate_length, rex_bits};
+use x86_table::{Parts, Place, Repeat, Row, Shape, Width};
 
 /// The bytes of a displacement.
 fn width_length(width: Width) -> u8
@@ -50,23 +50,6 @@ fn modrm_more(shape: Shape, place: Place, held: Option<u64>) -> u8
         Shape::Digit(_, _) => place_more(place, held),
         Shape::Slash(_) => place_more(place, held),
         _ => 0,
-    }
-}
-
-/// The bytes of an immediate or a distance.
-pub fn immediate_length(immediate: Immediate) -> u8
-    ensures value { result ≡ immediate_length immediate }
-    ensures small { result < 9 }
-{
-    match immediate {
-        Immediate::Absent => 0,
-        Immediate::Byte | Immediate::Count => 1,
-        Immediate::Sext16 | Immediate::Sext32 | Immediate::Sext64 => 1,
-        Immediate::Word => 2,
-        Immediate::Long | Immediate::LongSext => 4,
-        Immediate::Quad => 8,
-        Immediate::Rel8 | Immediate::Short => 1,
-        Immediate::Rel32 => 4,
     }
 }
 
@@ -139,7 +122,7 @@ fn rex_more(row: &Row, rex: bool, parts: &Parts) -> u8
 }
 
 /// How many bytes the fields have in a row that has at least so many.
-#[tactic(auto, unfolding(crate::specs::Keys::length_by), using(crate::proofs::Length::least_small))]
+#[tactic(auto, unfolding(x86_parts::specs::Keys::length_by), using(crate::proofs::Length::least_small))]
 pub fn length_of(least: u8, row: &Row, rex: bool, parts: &Parts) -> u8
     requires least { least ≡ least_length row.now }
     requires rex { rex ≡ has_rex row.now (fields_of parts.now) }

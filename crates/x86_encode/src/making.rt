@@ -3,17 +3,15 @@
 ghost use Rattle.std.specs.Prelude.{◌≡◌, ◌==◌, Some, false, option_map, true};
 ghost use Rattle.x86_insn.specs.Views.{seen_at, view_of};
 ghost use Rattle.x86_table.specs.Reads.{is_register, is_accumulator};
-ghost use Rattle.x86_encode.specs.Codes.{named};
+ghost use Rattle.x86_parts.specs.Codes.{named};
 ghost use Rattle.x86_encode.specs.Encoding.{ordered_coding, turned_position, turned_field, turned_coding, is_earlier, coding_of, made_at, MakesAs};
-ghost use Rattle.x86_encode.specs.Keys.{Best};
+ghost use Rattle.x86_parts.specs.Keys.{Best};
 ghost use Rattle.x86_encode.specs.Exchanges.{turned, exchanges, at_most};
 
-use crate::building::laid_out;
-use crate::encoded::{Encoded, Field, Position};
-use crate::filling::{displacement_field, immediate_field};
-use crate::searching::{Found, shortest};
+use crate::searching::shortest;
 use x86_insn::{Insn, Mnemonic, Slot, Values};
 use x86_lookup::rows;
+use x86_parts::{Encoded, Field, Found, Position, displacement_field, immediate_field, laid_out};
 use x86_table::mnemonics::integers::XCHG;
 use x86_table::{bytes_of, fields_have_bytes};
 

@@ -3,35 +3,16 @@
 ghost use Rattle.std.specs.Prelude.{◌≡◌, None};
 ghost use Rattle.x86_insn.specs.Views.{displaced, view_of};
 ghost use Rattle.x86_table.specs.Fields.{located};
-ghost use Rattle.x86_encode.specs.Building.{place_at};
-ghost use Rattle.x86_encode.specs.Codes.{named};
-ghost use Rattle.x86_encode.specs.Keys.{least_length, is_reached, Steps, Finds};
+ghost use Rattle.x86_parts.specs.Building.{place_at};
+ghost use Rattle.x86_parts.specs.Codes.{named};
+ghost use Rattle.x86_parts.specs.Keys.{least_length, Steps, Finds};
 
-use crate::building::{Laid, built};
-use crate::keying::{admits, sorts_of};
 use crate::lengths::{has_rex, length_of};
 use crate::showing::shows;
 use x86_insn::{Insn, Mnemonic, Values};
 use x86_lookup::{keys, rows, rows_of_size};
-use x86_table::{Parts, Row, parts_fit};
-
-/// A row by its index, with the fields of the instruction in it and the number of their bytes.
-#[derive(Clone, Copy)]
-pub struct Found {
-    pub row: usize,
-    pub length: u8,
-    pub parts: Parts,
-}
-
-/// Whether what was found is no longer than this.
-fn is_reached(found: &Option<Found>, length: u8) -> bool
-    ensures { result ≡ is_reached found.now length }
-{
-    match found {
-        None => false,
-        Some(old) => old.length <= length,
-    }
-}
+use x86_parts::{Found, Laid, admits, built, is_reached, sorts_of};
+use x86_table::{Row, parts_fit};
 
 /// Finds the row at an index, if it takes the instruction in fewer bytes than what was found. It is
 /// not tried where the fewest bytes that it has are no fewer.

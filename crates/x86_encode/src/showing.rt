@@ -5,12 +5,11 @@ ghost use Rattle.x86_insn.specs.Views.{absent, register, immediate as shown_imme
 ghost use Rattle.x86_table.specs.Bytes.{has_rex, bytes_of};
 ghost use Rattle.x86_table.specs.Fields.{fields_of};
 ghost use Rattle.x86_table.specs.Reads.{class_shown, from_start, memory_shown, place_shown, shown};
-ghost use Rattle.x86_encode.specs.Building.{same_value, segment_number, same_base, same_index, same_operand, shows};
-ghost use Rattle.x86_encode.specs.Codes.{class_number, last_of, reduced_if, plain_immediate, plain_target, plain_memory, normal, named};
+ghost use Rattle.x86_parts.specs.Building.{same_value, segment_number, same_base, same_index, same_operand, shows};
+ghost use Rattle.x86_parts.specs.Codes.{class_number, last_of, reduced_if, plain_immediate, plain_target, plain_memory, normal, named};
 
-use crate::building::{is_byte, is_middle};
-use crate::immediates::last_of;
 use x86_insn::{Base, Class, Index, Insn, Mnemonic, Segment, Slot, Values};
+use x86_parts::{is_byte, is_middle, last_of};
 use x86_table::{Immediate, Parts, Pattern, Place, Row};
 
 /// Classes by numbers.
@@ -316,7 +315,7 @@ fn shows_slot(
 }
 
 /// Whether the row shows the instruction of these fields, whose bytes are so many.
-#[tactic(auto, unfolding(crate::specs::Building::shows))]
+#[tactic(auto, unfolding(x86_parts::specs::Building::shows))]
 pub fn shows(
     row: &Row,
     parts: &Parts,

@@ -1,7 +1,7 @@
 use Rattle.std.proofs.Common.{rules, ◌≡◌, ◌==◌, ◌∙◌, ap, false, sym, Err, Ok}
 use Rattle.x86_insn.specs.Views.{view_of}
 use Rattle.x86_table.specs.declared.mnemonics.integers.TheConstants.{XCHG}
-use Rattle.x86_encode.specs.Codes.{named}
+use Rattle.x86_parts.specs.Codes.{named}
 use Rattle.x86_encode.specs.Encoding.{encoding_of, answered, made_coding}
 use Rattle.x86_encode.proofs.Coded.{coding_plain, none_made}
 use Rattle.x86_encode.proofs.Encodings.{encoding_is, answered_so}

@@ -2,7 +2,7 @@ use Rattle.std.proofs.Common.{refl}
 use Rattle.x86_table.specs.Bytes.{bytes_of, rex_bits, rex_byte}
 use Rattle.x86_table.specs.Fits.{fits, fields_fit}
 use Rattle.x86_table.specs.Rows.{the_rows}
-use Rattle.x86_encode.specs.Building.{pick, without_rex, built, shows, takes}
+use Rattle.x86_parts.specs.Building.{pick, without_rex, built, shows, takes}
 use Rattle.x86_encode.specs.Encoding.{shortest_row, coding_by, fault_of, encoding_of}
 use Rattle.x86_encode.proofs.Worked.{worked_code, worked_none}
 use Rattle.x86_encode.proofs.laws.worked_codes.Goals as goal

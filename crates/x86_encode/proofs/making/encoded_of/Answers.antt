@@ -1,6 +1,6 @@
 use Rattle.x86_insn.specs.Views.{view_of}
 use Rattle.x86_table.specs.Fields.{fields_of}
-use Rattle.x86_encode.specs.Codes.{named}
+use Rattle.x86_parts.specs.Codes.{named}
 use Rattle.x86_encode.proofs.Coded.{taking_made}
 use Rattle.x86_encode.proofs.Search.{best_within, best_row, taking_fits}
 use Rattle.x86_encode.proofs.making.encoded_of.Goals as goal

@@ -1,7 +1,7 @@
 use Rattle.std.proofs.Common.{rules, ◌≡◌, ◌&&◌, ◌∙◌, true, false}
 use Rattle.x86_insn.specs.Views.{view_of}
 use Rattle.x86_table.specs.Reads.{is_register, is_accumulator}
-use Rattle.x86_encode.specs.Codes.{named}
+use Rattle.x86_parts.specs.Codes.{named}
 use Rattle.x86_encode.proofs.Coded.{coding_plain, coding_back, coding_none}
 use Rattle.x86_encode.proofs.Turning.{as_named, back_named}
 use Rattle.x86_encode.proofs.making.exchanged.Goals as goal

@@ -1,6 +1,6 @@
 use Rattle.std.proofs.Common.{◌∙◌, ap, option_map, refl}
 use Rattle.x86_insn.specs.Views.{view_of}
-use Rattle.x86_encode.specs.Codes.{named}
+use Rattle.x86_parts.specs.Codes.{named}
 use Rattle.x86_encode.specs.Encoding.{made_at, ordered_coding}
 use Rattle.x86_encode.specs.Exchanges.{turned}
 use Rattle.x86_encode.proofs.Coded.{back_is}

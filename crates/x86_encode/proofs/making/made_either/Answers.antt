@@ -1,6 +1,6 @@
 use Rattle.std.proofs.Common.{◌∙◌, option_map, sym, subst}
 use Rattle.x86_insn.specs.Views.{view_of}
-use Rattle.x86_encode.specs.Codes.{named}
+use Rattle.x86_parts.specs.Codes.{named}
 use Rattle.x86_encode.specs.Encoding.{ordered_coding, turned_coding, MakesAs}
 use Rattle.x86_encode.specs.Exchanges.{turned}
 use Rattle.x86_encode.proofs.Coded.{either_none, either_one, either_two}

@@ -1,5 +1,5 @@
 use Rattle.x86_insn.specs.Views.{view_of}
-use Rattle.x86_encode.specs.Codes.{named}
+use Rattle.x86_parts.specs.Codes.{named}
 use Rattle.x86_encode.proofs.Coded.{none_made}
 use Rattle.x86_encode.proofs.Search.{none_found, best_of}
 use Rattle.x86_encode.proofs.making.made_here.Goals as goal

@@ -1,7 +1,7 @@
 use Rattle.std.proofs.Common.{rules, ◌≡◌, ◌==◌, ◌∙◌, false}
 use Rattle.x86_insn.specs.Views.{view_of}
 use Rattle.x86_table.specs.declared.mnemonics.integers.TheConstants.{XCHG}
-use Rattle.x86_encode.specs.Codes.{named}
+use Rattle.x86_parts.specs.Codes.{named}
 use Rattle.x86_encode.proofs.Coded.{coding_plain}
 use Rattle.x86_encode.proofs.Turning.{not_named}
 use Rattle.x86_encode.proofs.making.made_of.Goals as goal

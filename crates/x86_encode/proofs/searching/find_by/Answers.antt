@@ -2,9 +2,9 @@ use Rattle.std.proofs.Common.{rules, ◌≡◌, ◌∙◌, sym, subst, true, fal
 use Rattle.x86_insn.specs.Views.{view_of}
 use Rattle.x86_table.specs.Fields.{fields_of}
 use Rattle.x86_table.specs.Fits.{fields_fit}
-use Rattle.x86_encode.specs.Building.{shows}
-use Rattle.x86_encode.specs.Codes.{named}
-use Rattle.x86_encode.specs.Keys.{is_reached}
+use Rattle.x86_parts.specs.Building.{shows}
+use Rattle.x86_parts.specs.Codes.{named}
+use Rattle.x86_parts.specs.Keys.{is_reached}
 use Rattle.x86_encode.proofs.Search.{built_named, no_fit, too_long, not_shown, offered, steps_not, steps_longer, steps_shorter, steps_reached}
 use Rattle.x86_encode.proofs.searching.find_by.Goals as goal
 

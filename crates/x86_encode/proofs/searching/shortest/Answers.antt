@@ -1,8 +1,8 @@
 use Rattle.std.proofs.Common.{◌+◌, arith, ap, sym, subst, ◌∙◌}
 use Rattle.x86_insn.specs.Views.{view_of}
 use Rattle.x86_lookup.specs.declared.row_keys.Key.{Key}
-use Rattle.x86_encode.specs.Codes.{named}
-use Rattle.x86_encode.specs.Keys.{Steps, Sofar}
+use Rattle.x86_parts.specs.Codes.{named}
+use Rattle.x86_parts.specs.Keys.{Steps, Sofar}
 use Rattle.x86_encode.proofs.Search.{sofar_at, sofar_next, sofar_kept, sofar_ends, row_inside, key_inside, key_is, admits_named}
 use Rattle.x86_encode.proofs.searching.shortest.Goals.{then-admits, else-admits}
 use Rattle.x86_encode.proofs.searching.shortest.Goals as goal

@@ -5,8 +5,8 @@ ghost use Rattle.x86_insn.specs.Views.{displaced, seen_at, view_of};
 ghost use Rattle.x86_table.specs.Bytes.{bit, index_high, place_x, place_b};
 ghost use Rattle.x86_table.specs.Fields.{located, fields_of};
 ghost use Rattle.x86_table.specs.Fits.{is_byte, is_middle};
-ghost use Rattle.x86_encode.specs.Building.{is_rm, is_reg, is_low, is_held, pick, number_of, segment_of, held_of, reg_of, rm_operand, low_of, held_in, needs_sib, least_width, place_at, place_of, wants, wants_one, built};
-ghost use Rattle.x86_encode.specs.Codes.{last_of, reduced_if, plain_memory, normal};
+ghost use Rattle.x86_parts.specs.Building.{is_rm, is_reg, is_low, is_held, pick, number_of, segment_of, held_of, reg_of, rm_operand, low_of, held_in, needs_sib, least_width, place_at, place_of, wants, wants_one, built};
+ghost use Rattle.x86_parts.specs.Codes.{last_of, reduced_if, plain_memory, normal};
 
 use crate::immediates::{is_signed_8, last_of};
 use x86_insn::{Base, Class, Index, Insn, Segment, Slot, Values};

@@ -3,7 +3,7 @@
 ghost use Rattle.std.specs.Prelude.{◌≡◌, ◌<◌};
 ghost use Rattle.x86_insn.specs.Views.{seen_at, view_of};
 ghost use Rattle.x86_lookup.specs.Keys.{has_bit};
-ghost use Rattle.x86_encode.specs.Keys.{sort, has_word, admits, AreSorts};
+ghost use Rattle.x86_parts.specs.Keys.{sort, has_word, admits, AreSorts};
 
 use x86_insn::{Insn, Prefix, Slot, Values};
 use x86_lookup::{Key, has_bit, register_sort};

@@ -9,8 +9,8 @@ use Rattle.x86_table.specs.declared.forms.Pattern.{Pattern}
 use Rattle.x86_table.specs.declared.forms.Words.{Words}
 use Rattle.x86_table.specs.declared.parts.Width.{Width}
 use Rattle.x86_lookup.specs.declared.row_keys.Key.{Key}
-use Rattle.x86_encode.specs.declared.keying.Sorts.{Sorts}
-use Rattle.x86_encode.specs.declared.searching.Found.{Found}
+use Rattle.x86_parts.specs.declared.keying.Sorts.{Sorts}
+use Rattle.x86_parts.specs.declared.found.Found.{Found}
 use Rattle.x86_table.specs.declared.forms.Immediate.TheVariants as immediate
 use Rattle.x86_table.specs.declared.forms.Pattern.TheVariants as pattern
 use Rattle.x86_insn.specs.declared.insns.Prefix.TheVariants as prefix
@@ -22,8 +22,8 @@ use Rattle.x86_table.specs.Bytes.{first_byte, size_byte, repeat_byte, lock_byte,
 use Rattle.x86_table.specs.Fields.{Location, nowhere, direct, from_rip, bare, based, Fields, fields_of}
 use Rattle.x86_table.specs.Rows.{the_rows}
 use Rattle.x86_lookup.specs.Keys.{either, register_sort, register_sorts, first_sort, has_bit}
-use Rattle.x86_encode.specs.Building.{built, takes}
-use Rattle.x86_encode.specs.Codes.{OrderedCodes, Before, HasNoOrderedCode}
+use Rattle.x86_parts.specs.Building.{built, takes}
+use Rattle.x86_parts.specs.Codes.{OrderedCodes, Before, HasNoOrderedCode}
 
 -- THE SORT OF AN OPERAND, BELOW 16
 

@@ -22,7 +22,7 @@ use Rattle.x86_table.specs.Bytes.{rex_bits, has_rex, bytes_of}
 use Rattle.x86_table.specs.Fields.{Location, nowhere, direct, from_rip, bare, based, Fields}
 use Rattle.x86_table.specs.Fits.{is_signed, is_byte, is_middle, fits}
 use Rattle.x86_table.specs.Reads.{shown}
-use Rattle.x86_encode.specs.Codes.{class_number, normal}
+use Rattle.x86_parts.specs.Codes.{class_number, normal}
 
 -- a register or memory by ModRM.rm
 abbrev pub is_rm : Pattern → Bool

@@ -8,8 +8,8 @@ use Rattle.x86_table.specs.declared.forms.Pattern.TheVariants as pattern
 use Rattle.x86_insn.specs.Views.{Seen, View}
 use Rattle.x86_table.specs.Bytes.{bit, place_x, place_b, rex_bits}
 use Rattle.x86_table.specs.Fields.{Location}
-use Rattle.x86_encode.specs.Building.{is_rm, is_reg, is_low, is_held, pick, segment_of, reg_of, rm_operand, low_of, held_in, place_of, wants_one, without_rex, built}
-use Rattle.x86_encode.specs.Codes.{plain_memory, normal}
+use Rattle.x86_parts.specs.Building.{is_rm, is_reg, is_low, is_held, pick, segment_of, reg_of, rm_operand, low_of, held_in, place_of, wants_one, without_rex, built}
+use Rattle.x86_parts.specs.Codes.{plain_memory, normal}
 
 pub rm_plain : (i : Immediate) (q : Pattern) (o : Seen) → is_rm q ≡ true → plain_memory o ≡ normal i q o
 rm_plain i pattern.Absent o h = cc

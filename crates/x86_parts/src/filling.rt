@@ -3,11 +3,11 @@
 ghost use Rattle.std.specs.Prelude.{◌≡◌, ◌-◌, length};
 ghost use Rattle.x86_insn.specs.Views.{seen_at, view_of};
 ghost use Rattle.x86_table.specs.Fields.{located};
-ghost use Rattle.x86_encode.specs.Filling.{moved_field, kind_of, held_field, in_memory, holds_number, position_by};
-ghost use Rattle.x86_encode.specs.Keys.{immediate_length};
+ghost use Rattle.x86_parts.specs.Filling.{moved_field, kind_of, held_field, in_memory, holds_number, position_by};
+ghost use Rattle.x86_parts.specs.Keys.{immediate_length};
 
 use crate::encoded::{Field, Position};
-use crate::lengths::immediate_length;
+use crate::immediates::immediate_length;
 use x86_insn::{FieldKind, Insn, Slot, Values};
 use x86_table::{Immediate, Place};
 

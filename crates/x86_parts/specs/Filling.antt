@@ -6,21 +6,21 @@ use Rattle.x86_insn.specs.declared.insns.Prefix.{Prefix}
 use Rattle.x86_table.specs.declared.forms.Row.{Row}
 use Rattle.x86_table.specs.declared.forms.Immediate.{Immediate}
 use Rattle.x86_table.specs.declared.forms.Pattern.{Pattern}
-use Rattle.x86_encode.specs.declared.encoded.Field.{Field}
+use Rattle.x86_parts.specs.declared.encoded.Field.{Field}
 use Rattle.x86_insn.specs.declared.amounts.FieldKind.{FieldKind}
-use Rattle.x86_encode.specs.declared.encoded.Position.{Position}
+use Rattle.x86_parts.specs.declared.encoded.Position.{Position}
 use Rattle.x86_insn.specs.declared.insns.Base.TheVariants as base
 use Rattle.x86_table.specs.declared.forms.Immediate.TheVariants as immediate
 use Rattle.x86_insn.specs.declared.amounts.FieldKind.TheVariants as kind
 use Rattle.x86_table.specs.declared.forms.Pattern.TheVariants as pattern
-use Rattle.x86_encode.specs.declared.encoded.Position.TheVariants as position
+use Rattle.x86_parts.specs.declared.encoded.Position.TheVariants as position
 use Rattle.x86_insn.specs.Views.{Seen, absent, register, immediate as shown_immediate, memory, target, View, displaced}
 use Rattle.x86_table.specs.Bytes.{has_rex, bytes_of}
 use Rattle.x86_table.specs.Fields.{Location, nowhere, direct, from_rip, bare, based, Fields}
 use Rattle.x86_table.specs.Fits.{is_signed}
 use Rattle.x86_table.specs.Reads.{shown, meaning, ReadsRow}
-use Rattle.x86_encode.specs.Codes.{plain_immediate, OrderedRow}
-use Rattle.x86_encode.specs.Keys.{immediate_length}
+use Rattle.x86_parts.specs.Codes.{plain_immediate, OrderedRow}
+use Rattle.x86_parts.specs.Keys.{immediate_length}
 
 -- what a field may hold: a number of its bits, signed or not, modulo 2^64; where it is sign-extended, a signed one; and any in an item that takes as
 -- many bytes as the number needs

@@ -1,0 +1,2 @@
+-- Lemmas of the parts of a code.
+mod Picks
