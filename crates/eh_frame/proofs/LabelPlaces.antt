@@ -82,7 +82,7 @@ module _ (facts : StandingFacts) (sections : List LooseSection) where
       by None is has = absurd has
       by (Some one) is has = record { held = one; there = is; enough = let items = has.items in omega (arith, items) }
 
-  -- where a common entry stands
+  -- where a CIE stands
   abbrev pub CommonHolds : Common → Type 0
   CommonHolds common = HoldsItems sections common.place.section common.place.place.item
 
@@ -146,7 +146,7 @@ module _ (facts : StandingFacts) (sections : List LooseSection) where
       (facts.standing.pieces sections section frame.pos pieces one.tables (entry_is place (end_place section next.end) log frame there stop (All-head (FrameStands sections) frame frames all)))
       (entries_stand section frames next extends reach (ready_holds section frame found putting commons own) (All-tail (FrameStands sections) frame frames all)))
 
--- the common entry stands where the section ended
+-- the CIE stands where the section ended
 common_there : (section : ℕ) (sections : List LooseSection) (held : LooseSection) → slice_get sections section ≡ Some held → HoldsItems sections section (end_of section sections).items
 unfolding end_of
 common_there section sections held is =

@@ -1,5 +1,7 @@
 pub mod CommonLemmas
 pub mod ProgressLemmas
+mod SharedCommons
+mod SharingLemmas
 mod PieceFacts
 mod TableSteps
 mod NewTable

@@ -1,4 +1,4 @@
--- Common entries that are looked through one after the other, and entries that are put so.
+-- CIEs that are looked through one after the other, and entries that are put so.
 use Rattle.std.proofs.Common.{◌≡◌, ℕ, ◌+◌, ◌<◌, true, false, List, [], ◌∷◌, length, drop, None, Some, refl, sym, ◌∙◌, ap, slice_index_or}
 use Rattle.std.specs.Prelude.{if◌then◌else◌}
 use Rattle.std.specs.List.{find}
@@ -11,7 +11,7 @@ use Rattle.table_pieces.specs.Pieces.{Tables}
 use Rattle.eh_frame.specs.Placing.{Common, Putting, padded_log, place_of, frame_put, entries_put}
 use Rattle.eh_frame.specs.Progress.{common_in, commons_in}
 
--- where the common entry stands that is first here, or among the others
+-- where the CIE stands that is first here, or among the others
 place_at : (commons : List KnownCommon) (frame : Frame) (i : ℕ) (d : KnownCommon) → i < length commons
     → place_of frame (commons_in (drop i commons))
     ≡ option_map (λ (common : Common). common.place) (if share_common (slice_index_or commons i d).frame.now frame then Some (common_in (slice_index_or commons i d))

@@ -70,7 +70,7 @@ module _ (extending : Extending) (finding : Finding) where
   common_ready section frame (Some place) putting is_ready = is_ready
   common_ready section frame None putting is_ready = finding.ready section frame.pos (common_pieces frame) putting.tables putting.end is_ready
 
-  -- the pieces of the entry of a procedure
+  -- the pieces of the FDE of a procedure
   abbrev pieces_of : ℕ → ℕ → Frame → Putting → List Piece
   pieces_of section log frame putting = entry_pieces section (ready section frame putting).end (common_place section frame putting) log frame
 

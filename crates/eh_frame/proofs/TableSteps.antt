@@ -10,7 +10,7 @@ use Rattle.eh_frame.specs.Entries.{entry_pieces}
 use Rattle.eh_frame.specs.Placing.{Putting, padded_log, place_of, common_put, common_place, frame_put, entries_put, common_begun, table_put}
 use Rattle.eh_frame.proofs.PieceFacts.{Extending, Naming}
 
--- where the common entry of a procedure is there, or put
+-- where the CIE of a procedure is there, or put
 abbrev pub ready : ℕ → Frame → Putting → Putting
 ready section frame putting = common_put section frame (place_of frame putting.commons) putting
 

@@ -28,4 +28,6 @@ worked = record {
   pointed_bytes = refl;
   pointed_offsets = refl;
   shared = refl;
+  two_commons_bytes = refl;
+  two_commons_back = refl;
 }

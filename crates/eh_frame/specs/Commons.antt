@@ -1,5 +1,7 @@
--- Common entries as pieces: one for the procedures whose pointers are written alike and that have one personality (psABI for AMD64, section 4.2.4).
-use Rattle.std.specs.Prelude.{◌-◌, ◌^◌, ◌==◌, ◌&&◌, Bool, true, false, List, [], ◌∷◌, Option, None, Some, length, if◌then◌else◌}
+-- CIEs (common information entries) as pieces: one for the procedures whose pointers are written alike and that have one personality (psABI for AMD64,
+-- section 4.2.4).
+use Rattle.std.specs.Prelude.{◌-◌, ◌^◌, ◌==◌, ◌&&◌, Bool, true, false, List, [], ◌∷◌, Option, None, Some, if◌then◌else◌}
+use Rattle.std.specs.Cmp.Lexicographic.{pointwise}
 use Rattle.std.specs.Option.{option_map}
 use Rattle.asm_expr.specs.declared.forms.Term.{Term}
 use Rattle.asm_expr.specs.Forms.{Form, plus_times, symbol_form}
@@ -18,7 +20,7 @@ use Rattle.table_pieces.specs.Pieces.{Piece, plain, field}
 abbrev pub encoding_if : Option Pointer → Option PointerEncoding
 encoding_if pointer = option_map (λ pointer. pointer.encoding) pointer
 
--- what the common entry of a procedure says
+-- what the CIE of a procedure says
 abbrev pub form_of : Frame → CommonForm
 form_of frame = record { personality = encoding_if frame.personality; lsda = encoding_if frame.lsda }
 
@@ -26,15 +28,9 @@ form_of frame = record { personality = encoding_if frame.personality; lsda = enc
 abbrev pub same_term : Term → Term → Bool
 same_term one other = (one.symbol == other.symbol) && (one.coefficient == other.coefficient)
 
--- the same terms in the same order, as far as both go
-abbrev pub alike : List Term → List Term → Bool
-alike [] others = true
-alike (one ∷ terms) [] = true
-alike (one ∷ terms) (other ∷ others) = same_term one other && alike terms others
-
 -- the same terms in the same order
 abbrev pub same_terms : List Term → List Term → Bool
-same_terms one other = (length one == length other) && alike one other
+same_terms one other = pointwise same_term one other
 
 -- the same form
 abbrev pub same_form : Form → Form → Bool
@@ -54,7 +50,7 @@ same_pointer None (Some other) = false
 same_pointer (Some one) None = false
 same_pointer (Some one) (Some other) = (encoding_byte one.encoding == encoding_byte other.encoding) && same_form one.target other.target
 
--- both procedures have one common entry
+-- both procedures have one CIE: their pointers to LSDAs are written alike, and they have one personality
 abbrev pub share_common : Frame → Frame → Bool
 share_common one other =
     same_encoding (encoding_if one.lsda) (encoding_if other.lsda) && same_pointer one.personality other.personality
@@ -73,7 +69,7 @@ abbrev pub with_pointer : Option Pointer → List Piece → List Piece
 with_pointer None pieces = pieces
 with_pointer (Some pointer) pieces = field (pointer_field pointer.encoding) (pointer_form pointer) ∷ pieces
 
--- what the common entry of a procedure begins with
+-- what the CIE of a procedure begins with
 abbrev pub head_piece : Frame → Piece
 head_piece frame = plain (common_head (form_of frame))
 
@@ -81,6 +77,6 @@ head_piece frame = plain (common_head (form_of frame))
 abbrev pub rest_pieces : Frame → List Piece
 rest_pieces frame = with_pointer frame.personality (plain (common_tail (form_of frame)) ∷ [])
 
--- the common entry of a procedure
+-- the CIE of a procedure
 abbrev pub common_pieces : Frame → List Piece
 common_pieces frame = head_piece frame ∷ rest_pieces frame

@@ -1,4 +1,4 @@
--- The entries of a frame table as pieces (psABI for AMD64, section 4.2.4; DWARF 5, section 6.4).
+-- The FDEs (frame description entries) of a table as pieces (psABI for AMD64, section 4.2.4; DWARF 5, section 6.4).
 use Rattle.std.specs.Prelude.{ℕ, ◌-◌, ◌^◌, ◌==◌, Bool, true, false, List, [], ◌∷◌}
 use Rattle.std.specs.Option.{unwrap_or}
 use Rattle.item_bytes.specs.Levels.{advance_level}
@@ -40,7 +40,7 @@ abbrev pub op_pieces : ℕ → ℕ → Place → List PlacedOp → List Piece
 op_pieces section log last [] = padding log ∷ []
 op_pieces section log last (placed ∷ ops) = with_op section last placed (op_pieces section log placed.place ops)
 
--- what the length of an entry counts: the distance back to the common entry, the start, the range, the length of the augmentation data, which is the pointer
+-- what the length of an FDE counts: the distance back to the CIE, the start, the range, the length of the augmentation data, which is the pointer
 -- to the LSDA where there is one, the instructions and the padding
 abbrev pub counted_pieces : SectionPlace → ℕ → Frame → List Piece
 counted_pieces common log frame =
@@ -54,7 +54,7 @@ counted_pieces common log frame =
 abbrev pub length_piece : SectionPlace → Piece
 length_piece end = number (record { to = At end; from = Here; plus = 2 ^ 64 - 4 })
 
--- a frame description entry behind this end of the section of this number
+-- an FDE behind this end of the section of this number
 abbrev pub entry_pieces : ℕ → SectionEnd → SectionPlace → ℕ → Frame → List Piece
 entry_pieces section end common log frame =
     length_piece (end_place section (behind_pieces (counted_pieces common log frame) (behind_plain 4 end))) ∷ counted_pieces common log frame

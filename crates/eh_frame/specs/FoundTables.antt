@@ -14,28 +14,28 @@ use Rattle.eh_frame.specs.Entries.{entry_pieces}
 use Rattle.eh_frame.specs.Commons.{common_pieces}
 use Rattle.eh_frame.specs.Placing.{Putting, padded_log, place_of, common_put, common_place, frame_put, common_begun, table_put, new_table}
 
--- the common entry of a procedure stands behind this end, unless it stands already
+-- the CIE of a procedure stands behind this end, unless it stands already
 abbrev pub CommonStands : LooseSection → ℕ → Frame → Option SectionPlace → Putting → Type 0
 CommonStands held section frame (Some place) putting = Unit {0}
 CommonStands held section frame None putting = PiecesStand held section frame.pos putting.end putting.tables (common_pieces frame)
 
--- the entry of a procedure stands behind this end
+-- the FDE of a procedure stands behind this end
 abbrev pub EntryStands : LooseSection → ℕ → ℕ → SectionPlace → Frame → Putting → Type 0
 EntryStands held section log common frame putting =
     PiecesStand held section frame.pos putting.end putting.tables (entry_pieces section putting.end common log frame)
 
--- the entry of a procedure stands behind its common entry, where that is put with it, or else behind this end
+-- the FDE of a procedure stands behind its CIE, where that is put with it, or else behind this end
 pub record StandsWith (held : LooseSection) (section log : ℕ) (frame : Frame) (putting : Putting) : Type 0 where
   pub common : CommonStands held section frame (place_of frame putting.commons) putting
   pub entry : EntryStands held section log (common_place section frame putting) frame (common_put section frame (place_of frame putting.commons) putting)
 
--- the entries of procedures stand so one behind the other
+-- the FDEs of procedures stand so one behind the other
 abbrev pub EntriesStand : LooseSection → ℕ → List Frame → Putting → Type 0
 EntriesStand held section [] putting = Unit {0}
 EntriesStand held section (frame ∷ frames) putting =
     StandsWith held section (padded_log frames) frame putting × EntriesStand held section frames (frame_put section (padded_log frames) frame putting)
 
--- the first common entry stands behind what the section had, and the entries of procedures behind it
+-- the first CIE stands behind what the section had, and the FDEs of procedures behind it
 pub record TableStands (held : LooseSection) (section : ℕ) (first : Frame) (frames : List Frame) (tables : Tables) : Type 0 where
   pub start : SectionEnd
   pub place : end_place section start ≡ end_place section (end_of section tables.sections)

@@ -2,6 +2,7 @@
 pub mod Commons
 pub mod Entries
 pub mod Placing
+pub mod Sharing
 pub mod Progress
 pub mod Refused
 pub mod FoundTables

@@ -20,22 +20,22 @@ abbrev pub padded_log : List Frame → ℕ
 padded_log [] = 3
 padded_log (frame ∷ frames) = 2
 
--- a common entry that stands at a place, by a procedure that it is made for
+-- a CIE that stands at a place, by a procedure that it is made for
 pub record Common : Type 0 where
   pub frame : Frame
   pub place : SectionPlace
 
--- the common entries so far, the end of the section behind what was put, and what was put
+-- the CIEs so far, the end of the section behind what was put, and what was put
 pub record Putting : Type 0 where
   pub commons : List Common
   pub end : SectionEnd
   pub tables : Tables
 
--- where the common entry of a procedure stands, if it is there
+-- where the CIE of a procedure stands, if it is there
 abbrev pub place_of : Frame → List Common → Option SectionPlace
 place_of frame commons = option_map (λ common. common.place) (find (λ common. share_common common.frame frame) commons)
 
--- the common entry of a procedure, unless it is there
+-- the CIE of a procedure, unless it is there
 abbrev pub common_put : ℕ → Frame → Option SectionPlace → Putting → Putting
 common_put section frame (Some place) putting = putting
 common_put section frame None putting = record {
@@ -44,28 +44,28 @@ common_put section frame None putting = record {
   tables = pieces_put section frame.pos (common_pieces frame) putting.tables;
 }
 
--- the entry of a procedure, the common one of which stands at this place
+-- the FDE of a procedure, whose CIE stands at this place
 abbrev pub entry_put : ℕ → ℕ → SectionPlace → Frame → Putting → Putting
 entry_put section log common frame putting = record putting {
   end = behind_pieces (entry_pieces section putting.end common log frame) putting.end;
   tables = pieces_put section frame.pos (entry_pieces section putting.end common log frame) putting.tables;
 }
 
--- where the common entry of a procedure stands, or is put
+-- where the CIE of a procedure stands, or is put
 abbrev pub common_place : ℕ → Frame → Putting → SectionPlace
 common_place section frame putting = unwrap_or (place_of frame putting.commons) (end_place section putting.end)
 
--- the same, behind its common entry where that is not there
+-- the same, behind the CIE of the procedure where that is not there
 abbrev pub frame_put : ℕ → ℕ → Frame → Putting → Putting
 frame_put section log frame putting =
     entry_put section log (common_place section frame putting) frame (common_put section frame (place_of frame putting.commons) putting)
 
--- the entries of procedures, one behind the other
+-- the FDEs of procedures, one behind the other
 abbrev pub entries_put : ℕ → List Frame → Putting → Putting
 entries_put section [] putting = putting
 entries_put section (frame ∷ frames) putting = entries_put section frames (frame_put section (padded_log frames) frame putting)
 
--- what the first common entry begins with stands behind what the section has, and the rest of it behind that
+-- what the first CIE begins with stands behind what the section has, and the rest of it behind that
 abbrev pub first_common : ℕ → Frame → Tables → Tables → Putting
 first_common section frame tables begun = record {
   commons = record { frame = frame; place = end_place section (end_of section tables.sections) } ∷ [];
@@ -73,11 +73,11 @@ first_common section frame tables begun = record {
   tables = pieces_put section frame.pos (rest_pieces frame) begun;
 }
 
--- the common entry of a procedure, behind what the section has
+-- the CIE of a procedure, behind what the section has
 abbrev pub common_begun : ℕ → Frame → Tables → Putting
 common_begun section frame tables = first_common section frame tables (piece_put section frame.pos (head_piece frame) tables)
 
--- the entries of procedures, of which this is the first, and before the first of those that share it a common entry
+-- the FDEs of procedures, of which this is the first, and before the first of those that share it a CIE
 abbrev pub table_put : ℕ → Frame → List Frame → Tables → Tables
 table_put section first frames tables = (entries_put section frames (common_begun section first tables)).tables
 

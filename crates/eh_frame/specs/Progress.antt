@@ -1,15 +1,15 @@
--- The common entries as the code holds them, and what was put.
+-- The CIEs as the code holds them, and what was put.
 use Rattle.std.specs.Prelude.{List, map}
 use Rattle.eh_frame.specs.declared.placing.KnownCommon.{KnownCommon}
 use Rattle.eh_frame.specs.declared.placing.Progress.{Progress}
 use Rattle.eh_frame.specs.Placing.{Common, Putting}
 use Rattle.table_pieces.specs.Pieces.{Tables}
 
--- a common entry
+-- a CIE
 abbrev pub common_in : KnownCommon → Common
 common_in known = record { frame = known.frame.now; place = known.place }
 
--- common entries
+-- CIEs
 abbrev pub commons_in : List KnownCommon → List Common
 commons_in commons = map common_in commons
 

@@ -24,7 +24,7 @@ module _ (address : SectionPlace → ℕ) where
   Rise section last [] stop = stands_at address section last ≤ stands_at address section stop
   Rise section last (placed ∷ ops) stop = Follows section last placed.place × Rise section placed.place ops stop
 
-  -- the entry of a procedure as it is made at this address, behind the common entry, in a section of fewer than 0xfffffff0 bytes
+  -- the FDE of a procedure as it is made at this address, behind the CIE, in a section of fewer than 0xfffffff0 bytes
   pub record IsEntry (here : ℕ) (common end : SectionPlace) (log : ℕ) (frame : Frame) (mades : List Made) : Type 0 where
     pub whole : IsWhole frame
     pub rise : Rise frame.section frame.start frame.ops (stop_of frame)

@@ -1,13 +1,20 @@
 -- Frame tables worked out by hand, for sources that stand at the beginning of `.text`.
-use Rattle.std.specs.Prelude.{◌≡◌, ℕ, pos, neg_ℤ, List, [], ◌∷◌, ◌++◌, codes, map, replicate, Option, None, Some, Result, Ok, Err, slice_get}
-use Rattle.std.specs.Option.{option_map}
+use Rattle.std.specs.Prelude.{◌≡◌, ℕ, ◌+◌, ◌-◌, pos, neg_ℤ, List, [], ◌∷◌, ◌++◌, codes, map, replicate, sum, take, Option, None, Some, Result, Ok, Err, slice_get}
+use Rattle.std.specs.Option.{option_map, option_and_then}
 use Rattle.asm_base.specs.declared.causes.FragCause.{FragCause}
 use Rattle.asm_base.specs.declared.causes.FragCause.TheVariants.{BadSection}
+use Rattle.asm_expr.specs.declared.forms.Term.{Term}
+use Rattle.asm_expr.specs.declared.naming.Name.TheVariants.{Plain}
 use Rattle.asm_expr.specs.Forms.{symbol_form}
+use Rattle.asm_frags.specs.declared.fields.Field.{Field}
 use Rattle.asm_frags.specs.Alignments.{alignment_of_all}
 use Rattle.asm_frags.specs.SectionOf.{new_section}
 use Rattle.asm_frags.specs.Sections.{section_flags}
 use Rattle.asm_frags.specs.Writing.{LooseSection}
+use Rattle.asm_symbols.specs.declared.entries.Meaning.{Meaning}
+use Rattle.asm_symbols.specs.declared.entries.Meaning.TheVariants.{Label}
+use Rattle.asm_symbols.specs.declared.entries.Symbol.{Symbol}
+use Rattle.asm_symbols.specs.Interning.{with_name}
 use Rattle.asm_symbols.specs.SymbolMap.{nothing_named}
 use Rattle.cfi_directives.specs.declared.frames.Frame.{Frame}
 use Rattle.cfi_directives.specs.declared.frames.PlacedOp.{PlacedOp}
@@ -56,7 +63,15 @@ pointed = record spaced {
   lsda = Some (record { encoding = Relative4; target = symbol_form 0 });
 }
 
--- the common entry is first in the section, which has number 1
+-- .cfi_startproc; nop; .cfi_endproc
+abbrev pub bare : Frame
+bare = procedure (at_place 1 1) []
+
+-- .cfi_startproc; .cfi_personality 0x9b, p; nop; .cfi_endproc
+abbrev pub personal : Frame
+personal = record bare { personality = Some (record { encoding = Indirect4; target = symbol_form 0 }) }
+
+-- the CIE is first in the section, which has number 1
 abbrev pub common_place : SectionPlace
 common_place = record { section = 1; place = at_place 0 0 }
 
@@ -101,6 +116,36 @@ header held = (held.name, held.flags.0, held.kind, held.entry_size)
 abbrev pub fields_blank : List ℕ
 fields_blank = replicate 16 0
 
+-- three procedures, of which the second has a personality: two CIEs, where p is the only symbol
+abbrev pub two_commons : Result Tables FragCause
+two_commons = placed (bare ∷ personal ∷ bare ∷ []) (tables_of (with_name nothing_named (Plain (codes "p"))) (text ∷ []))
+
+-- the sizes of their items: plain bytes take none, and each FDE is padded from 17 bytes to 20
+abbrev pub padded : List ℕ
+padded = 0 ∷ 3 ∷ 0 ∷ 3 ∷ 0 ∷ 3 ∷ []
+
+-- how far this field stands behind a label of its section
+abbrev pub behind_label : Field → Meaning → Option ℕ
+behind_label field (Label spot) =
+    Some (field.offset + sum (take field.item padded) - (spot.place.place.offset + sum (take spot.place.place.item padded)))
+behind_label field meaning = None
+
+-- the distance back that a field holds: from the label that its form takes away to its own place
+abbrev pub distance_back : List Symbol → Field → List Term → Option ℕ
+distance_back symbols field (own ∷ label ∷ []) = option_and_then (λ symbol. behind_label field symbol.meaning) (slice_get symbols label.symbol)
+distance_back symbols field terms = None
+
+-- what the field with this index in section 1 holds
+abbrev pub back_at : Tables → ℕ → Option ℕ
+back_at tables index =
+    option_and_then (λ held. option_and_then (λ field. distance_back tables.symbols.symbols field field.form.terms) (slice_get held.fields index))
+    (slice_get tables.sections 1)
+
+-- the same of fields with these indices
+abbrev pub backs : List ℕ → Result Tables FragCause → List (Option ℕ)
+backs indices (Ok tables) = map (back_at tables) indices
+backs indices (Err fault) = []
+
 -- the bytes of entries, and the section that they are put into
 pub record WorkedTables : Type 0 where
   pub framed_entry : entry_made framed (valued 28 ∷ valued 28 ∷ valued 0 ∷ valued 6 ∷ known ∷ sized 1 1 ∷ known ∷ known ∷ known ∷ known ∷ known ∷ known ∷ known ∷ sized 3 0 ∷ [])
@@ -126,3 +171,6 @@ pub record WorkedTables : Type 0 where
       ≡ Some (common_bytes ++ (fields_blank ++ (0x00 ∷ 0x0e ∷ 0x10 ∷ []))
       ++ (common_entry (form_of pointed) (replicate 4 0) ++ (fields_blank ++ (0x04 ∷ (replicate 4 0 ++ (0x0e ∷ 0x10 ∷ [])))))
       ++ (fields_blank ++ (0x00 ∷ 0x0e ∷ 0x10 ∷ [])))
+  pub two_commons_bytes : of_table (λ held. held.bytes) two_commons
+      ≡ Some (common_bytes ++ (fields_blank ++ 0 ∷ []) ++ (common_entry (form_of personal) (replicate 4 0) ++ (fields_blank ++ 0 ∷ [])) ++ (fields_blank ++ 0 ∷ []))
+  pub two_commons_back : backs (1 ∷ 6 ∷ 10 ∷ []) two_commons ≡ Some 0x1c ∷ Some 0x20 ∷ Some 0x60 ∷ []

@@ -1,4 +1,4 @@
-//! Common entries: one for the procedures whose pointers are written alike and that have one personality.
+//! CIEs, common information entries: one for the procedures whose pointers are written alike and that have one personality.
 
 ghost use Rattle.std.specs.Prelude.{◌≡◌, ℕ, List, ◌∷◌, OnOk, IfOk, IfErr, IfSome};
 ghost use Rattle.asm_base.specs.declared.refusals.Refusal.TheVariants.{NoMemory};
@@ -24,7 +24,7 @@ fn encoding(pointer: &Option<Pointer>) -> Option<PointerEncoding>
     }
 }
 
-/// What the common entry of a procedure says.
+/// What the CIE of a procedure says.
 pub(crate) fn form_of(frame: &Frame) -> CommonForm
     ensures { result ≡ spec.form_of frame.now }
 {
@@ -42,7 +42,7 @@ fn same_term(one: Term, other: Term) -> bool
 }
 
 /// Whether both are the same terms in the same order.
-#[tactic(auto, using(crate::proofs::CommonLemmas::alike_more, crate::proofs::CommonLemmas::alike_not, crate::proofs::CommonLemmas::alike_all))]
+#[tactic(auto, using(crate::proofs::CommonLemmas::terms_apart, crate::proofs::CommonLemmas::terms_more, crate::proofs::CommonLemmas::terms_not, crate::proofs::CommonLemmas::terms_all))]
 fn same_terms(one: &[Term], other: &[Term]) -> bool
     ensures { result ≡ spec.same_terms one.now other.now }
 {
@@ -77,7 +77,7 @@ fn same_pointer(one: &Option<Pointer>, other: &Option<Pointer>) -> bool
     }
 }
 
-/// Whether both procedures have one common entry.
+/// Whether both procedures have one CIE.
 pub(crate) fn share_common(one: &Frame, other: &Frame) -> bool
     ensures { result ≡ spec.share_common one.now other.now }
 {
@@ -153,7 +153,7 @@ pub(crate) fn behind_pointer_if(end: SectionEnd, pointer: &Option<Pointer>) -> O
     }
 }
 
-/// Puts what the common entry of a procedure begins with, up to the pointer to the personality.
+/// Puts what the CIE of a procedure begins with, up to the pointer to the personality.
 pub(crate) fn put_common_head(
     symbols: &Symbols,
     sections: &mut Sections,
@@ -172,7 +172,7 @@ pub(crate) fn put_common_head(
     put_plain(symbols, sections, table, head.as_slice())
 }
 
-/// Puts the rest of the common entry of a procedure.
+/// Puts the rest of the CIE of a procedure.
 pub(crate) fn put_common_rest(
     alloc: Global,
     symbols: &Symbols,
@@ -201,7 +201,7 @@ pub(crate) fn behind_common_rest(end: SectionEnd, frame: &Frame) -> Option<Secti
     behind.behind_plain(common_tail(form_of(frame)).len() as u64)
 }
 
-/// The end behind the common entry of a procedure, if its numbers fit in 64 bits.
+/// The end behind the CIE of a procedure, if its numbers fit in 64 bits.
 pub(crate) fn behind_common(end: SectionEnd, frame: &Frame) -> Option<SectionEnd>
     ensures { IfSome result (λ behind.
         behind ≡ ends.behind_pieces (spec.common_pieces frame.now) end) }

@@ -1,4 +1,4 @@
-//! Frame description entries (DWARF 5, section 6.4.1).
+//! FDEs: frame description entries (DWARF 5, section 6.4.1).
 
 ghost use Rattle.std.specs.Prelude.{◌≡◌, ◌≤◌, ℕ, List, ◌∷◌, OnOk, IfOk, IfErr, IfSome};
 ghost use Rattle.asm_base.specs.declared.refusals.Refusal.TheVariants.{NoMemory};
@@ -192,7 +192,7 @@ fn put_head(
     put_pointer_if(alloc, symbols, sections, table, &frame.lsda)
 }
 
-/// Puts the entry of a procedure behind this end of the section, padded to a multiple of 2^log, and answers the end behind
+/// Puts the FDE of a procedure behind this end of the section, padded to a multiple of 2^log, and answers the end behind
 /// it. An end past 2^64 is refused as want of memory.
 pub(crate) fn put_entry(
     alloc: Global,

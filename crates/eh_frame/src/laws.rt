@@ -10,6 +10,7 @@ ghost use Rattle.table_pieces.specs.Pieces.{Tables};
 ghost use Rattle.table_pieces.specs.Standing.{OneExtends};
 ghost use Rattle.eh_frame.specs.Placing.{Putting, entries_put, placed, table_put};
 ghost use Rattle.eh_frame.specs.Additions.{TablesAddLittle};
+ghost use Rattle.eh_frame.specs.Sharing.{CommonsAreFirst, SharingIsEquality, TablesAreListed};
 ghost use Rattle.eh_frame.specs.Refused.{HasZerosAlone};
 ghost use Rattle.eh_frame.specs.WorkedTables.{WorkedTables};
 ghost use Rattle.eh_frame.specs.StandingFrames.{LabelsStand};
@@ -23,7 +24,7 @@ use table_pieces::{
 };
 
 /// Wherever places stand, and whatever sizes layout gives to the advances and the padding, if each advance holds its
-/// distance: the bytes of the common entry, with any pointer to the personality, and of an entry read, at each place, as the
+/// distance: the bytes of the CIE, with any pointer to the personality, and of an entry read, at each place, as the
 /// row that the directives of the entry's procedure mean there, and none where it has ended.
 pub fn entries_read()
     ensures read { EntriesRead }
@@ -32,6 +33,15 @@ pub fn entries_read()
     entries_read_back();
     advances_hold_their_distance();
 }
+
+/// Procedures share a CIE exactly where they have one personality and their pointers are written alike. A table is put as the
+/// list of its entries says: for each procedure its CIE, unless an earlier procedure shares one, then its FDE. Each FDE leads
+/// to the CIE of the first procedure that shares it.
+pub fn commons_are_shared()
+    ensures equal { SharingIsEquality }
+    ensures listed { TablesAreListed }
+    ensures first { CommonsAreFirst }
+{}
 
 /// A table stands behind all that was in its section, which stays as it is, and so do all other sections.
 pub fn tables_stand_behind()
@@ -67,7 +77,7 @@ pub fn worked_tables()
     ensures { WorkedTables }
 {}
 
-/// The common entries and the entries of a table stand in its section in the end, each where its end is counted to be, where
+/// The CIEs and the entries of a table stand in its section in the end, each where its end is counted to be, where
 /// the fields and items of all sections stand within their bytes; and they still do.
 pub fn tables_are_found()
     ensures { (frame : FrameValue) (frames : List FrameValue) (tables after : Tables)

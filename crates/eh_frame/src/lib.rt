@@ -8,7 +8,7 @@ mod laws;
 mod placing;
 
 pub use laws::{
-    entries_read, labels_stand, tables_add_little, tables_are_found, tables_get_labels,
-    tables_stand_behind, worked_tables, zeros_are_refused,
+    commons_are_shared, entries_read, labels_stand, tables_add_little, tables_are_found,
+    tables_get_labels, tables_stand_behind, worked_tables, zeros_are_refused,
 };
 pub use placing::place;

@@ -37,21 +37,21 @@ fn padded_log(following: &[Frame]) -> u8
     }
 }
 
-/// A common entry that stands at a place, by a procedure that it is made for.
+/// A CIE that stands at a place, by a procedure that it is made for.
 #[derive(Clone, Copy)]
 struct KnownCommon<'a> {
     frame: &'a Frame,
     place: SectionPlace,
 }
 
-/// The common entries so far, and the end of the section behind what was put.
+/// The CIEs so far, and the end of the section behind what was put.
 #[derive(Drop)]
 struct Progress<'a> {
     commons: Vec<KnownCommon<'a>>,
     end: SectionEnd,
 }
 
-/// Where the common entry of a procedure stands, if it is there.
+/// Where the CIE of a procedure stands, if it is there.
 #[tactic(auto, using(crate::proofs::ProgressLemmas::place_here, crate::proofs::ProgressLemmas::place_on, crate::proofs::ProgressLemmas::place_none))]
 fn place_of(commons: &[KnownCommon], frame: &Frame) -> Option<SectionPlace>
     ensures { result ≡ spec.place_of frame.now (commons_in commons.now) }
@@ -64,7 +64,7 @@ fn place_of(commons: &[KnownCommon], frame: &Frame) -> Option<SectionPlace>
     None
 }
 
-/// Puts the common entry of a procedure behind this end of the section, and answers the end behind it. An end past 2^64 is
+/// Puts the CIE of a procedure behind this end of the section, and answers the end behind it. An end past 2^64 is
 /// refused as want of memory.
 fn put_common(
     alloc: Global,
@@ -95,7 +95,7 @@ fn put_common(
     Ok(behind)
 }
 
-/// Puts the common entry of a procedure behind what the section has, and answers the end behind it.
+/// Puts the CIE of a procedure behind what the section has, and answers the end behind it.
 fn put_first_common(
     alloc: Global,
     symbols: &Symbols,
@@ -124,7 +124,7 @@ fn put_first_common(
     Ok(behind)
 }
 
-/// The same, which is the only common entry so far.
+/// The same, which is the only CIE so far.
 fn first_progress<'a>(
     alloc: Global,
     symbols: &Symbols,
@@ -146,7 +146,7 @@ fn first_progress<'a>(
     Ok(Progress { commons, end })
 }
 
-/// Puts the common entry of a procedure, unless it is there, and answers its place.
+/// Puts the CIE of a procedure, unless it is there, and answers its place.
 fn common_of<'a>(
     alloc: Global,
     symbols: &Symbols,
@@ -176,7 +176,7 @@ fn common_of<'a>(
     }
 }
 
-/// Puts the entry of a procedure, behind its common entry where that is not there.
+/// Puts the FDE of a procedure, behind its CIE where that is not there.
 fn put_frame<'a>(
     alloc: Global,
     symbols: &mut Symbols,
@@ -208,7 +208,7 @@ fn put_frame<'a>(
     Ok(())
 }
 
-/// Puts the entries of procedures, one behind the other.
+/// Puts the FDEs of procedures, one behind the other.
 fn put_entries<'a>(
     alloc: Global,
     symbols: &mut Symbols,
@@ -239,7 +239,7 @@ fn put_entries<'a>(
     Ok(())
 }
 
-/// Puts the entries of procedures, of which this is the first, and before the first of those that share it a common entry.
+/// Puts the FDEs of procedures, of which this is the first, and before the first of those that share it a CIE.
 fn put_table(
     alloc: Global,
     symbols: &mut Symbols,
@@ -310,9 +310,10 @@ fn place_all(
     put_table(alloc, symbols, sections, section, first, frames)
 }
 
-/// Puts the frame table of procedures behind what stands in `.eh_frame`, which is made if it is not there: an entry for each
-/// procedure, in the order of their beginnings, and before the first of those that share it a common entry (psABI for AMD64,
-/// section 4.2.4; DWARF 5, section 6.4). Those share one whose pointers are written alike and that have one personality. Places that distances lead from and to get labels. Where there is no procedure, nothing is put and nothing
+/// Puts the frame table of procedures behind what stands in `.eh_frame`, which is made if it is not there: for each
+/// procedure, in the order of their beginnings, its CIE, unless an earlier procedure shares one, then its FDE (psABI for
+/// AMD64, section 4.2.4; DWARF 5, section 6.4). Procedures share a CIE whose pointers are written alike and that have one
+/// personality. Places that distances lead from and to get labels. Where there is no procedure, nothing is put and nothing
 /// made. `BadSection` comes exactly where there is one and the section has the type `SHT_NOBITS`; it is told at the first
 /// procedure's line. A section or a symbol more than there may be is refused as want of memory.
 #[tactic(auto, unfolding(crate::specs::Placing::placed))]

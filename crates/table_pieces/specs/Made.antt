@@ -62,7 +62,8 @@ module _ (address : SectionPlace → ℕ) where
     pub size : made.size ≡ level + 1
     pub holds : made.value < 2 ^ (7 * (level + 1))
 
-  -- what a piece may be made at this address: a pointer and an address are the linker's, an address is 0 before, what a form comes to may be any number, and a padding may have any size
+  -- what a piece may be made at this address: a pointer and an address are the linker's, an address is 0 before, what a form comes to may be any number, and a
+  -- padding may have any size
   abbrev pub IsMade : ℕ → Piece → Made → Type 0
   IsMade here (put.plain bytes) made = Unit {0}
   IsMade here (put.number distance) made = IsSpan here distance made.value

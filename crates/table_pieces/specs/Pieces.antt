@@ -18,7 +18,8 @@ use Rattle.table_pieces.specs.declared.marks.Mark.TheVariants.{Here, At}
 use Rattle.table_pieces.specs.Marks.{with_label, with_marks, distance_form, address_form}
 
 -- plain bytes; a distance in four bytes; where a place stands, from the four bytes themselves, which the linker fills in; the address of a place in eight
--- bytes, which the linker fills in; a form in a field of this size; the advance of a frame table by a distance; a distance in groups of 7 bits; zeros up to the next multiple of 2 ^ log
+-- bytes, which the linker fills in; a form in a field of this size; the advance of a frame table by a distance; a distance in groups of 7 bits; zeros up to
+-- the next multiple of 2 ^ log
 pub data Piece : Type 0 where
   plain : List ℕ → Piece
   number : Distance → Piece

@@ -1,4 +1,4 @@
--- The end is counted behind what the common entry begins with.
+-- The end is counted behind what the CIE begins with.
 use Rattle.std.proofs.Common.{[], ap, ◌∙◌}
 use Rattle.table_pieces.specs.Ends.{behind_pieces, end_of}
 use Rattle.table_pieces.specs.Pieces.{Tables}
