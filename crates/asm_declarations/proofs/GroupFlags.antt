@@ -1,6 +1,6 @@
 -- The flags of a section say whether it is in a group: those that letters ask for, and those that are not said.
 use Rattle.std.proofs.Common.{◌≡◌, ℕ, suc, ◌+◌, ◌*◌, ◌≤◌, ◌<◌, ◌==◌, Bool, true, false, cond, List, [], ◌∷◌, length, Option, None, Some, Result, Ok, Err, refl, sym, ap, subst, ◌∙◌, arith, slice_get}
-use Rattle.std.specs.Prelude.{bit_and, not, nat_lt, position, is_none, is_some, IfSome, option_map, ◌&&◌, codes, nat_eq}
+use Rattle.std.specs.Prelude.{bit_and, not, nat_lt, position, is_none, is_some, IfSome, ◌&&◌, codes, nat_eq}
 use Rattle.std.specs.List.{list_all, position_or_len, starts_with}
 use Rattle.std.specs.Str.{bytes_eq}
 use Rattle.std.proofs.lemmas.Nat.{and_block, and_le_r}
@@ -126,6 +126,15 @@ said_grouped letters flags false is = absurd cc
 none_said : (flags : Option ℕ) → if_some said_flags None ≡ Ok flags → None ≡ flags
 none_said flags is = cc
 
+said_by : (letters : List ℕ) (flags : ℕ) (test : Bool) → cond {A = Result ℕ PlaceCause} test (Ok (letter_flags letters)) (Err BadSection) ≡ Ok flags → flags ≡ letter_flags letters
+said_by letters flags true is = cc
+said_by letters flags false is = absurd cc
+
+-- flags that letters ask for say whether the section is in a group
+pub said_flagged : (letters : List ℕ) (flags : ℕ) → said_flags letters ≡ Ok flags → says_group (section_flags flags) ≡ has_letter 71 letters
+unfolding said_flags
+said_flagged letters flags is = ap (λ (n : ℕ). says_group (section_flags n)) (said_by letters flags (list_all is_flag_letter letters) is) ∙ letters_grouped letters
+
 -- the flags of a header are those that letters ask for, or those of the section that there is in no group, or those of its name
 pub header_flagged : (letters : Option (List ℕ)) (flags : Option ℕ) (there : Option LooseSection) (name : List ℕ) → if_some said_flags letters ≡ Ok flags
     → IfSome there (λ section. says_group section.flags ≡ false) → says_group (section_flags (flags_by flags there name)) ≡ says_grouped letters
@@ -151,11 +160,6 @@ group_there true (Some signature) linkage group is = by_linkage (comdat_by linka
     by_linkage (Ok one) same = let made : Some (signature, one) ≡ group = cc in sym (ap is_some made)
     by_linkage (Err fault) same = absurd cc
 
-pub group_flagged : {S : Type 0} (flags : ℕ) (words : SectionWords) (group : Option S) (told : S → List ℕ × Bool) → said_group words ≡ Ok (option_map told group)
+pub group_flagged : (flags : ℕ) (words : SectionWords) (group : Option (List ℕ × Bool)) → said_group words ≡ Ok group
     → says_group (section_flags flags) ≡ says_grouped words.flags → says_group (section_flags flags) ≡ is_some group
-group_flagged {S} flags words group told is says =
-    says ∙ sym (group_there (says_grouped words.flags) words.signature words.linkage (option_map told group) is) ∙ mapped group
-  where
-    mapped : (group : Option S) → is_some (option_map told group) ≡ is_some group
-    mapped None = refl
-    mapped (Some one) = refl
+group_flagged flags words group is says = says ∙ sym (group_there (says_grouped words.flags) words.signature words.linkage group is)

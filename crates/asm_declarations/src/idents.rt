@@ -76,13 +76,8 @@ pub fn place_ident(assembler: &mut Assembler, pos: Pos, tokens: &[Token]) -> Res
         kind: SHT_PROGBITS,
         entry_size: 1,
     };
-    let number = enter(
-        assembler.alloc,
-        &mut assembler.sections,
-        b".comment",
-        header,
-        None,
-    )?;
+    let name = Vec::from_slice(assembler.alloc, b".comment")?;
+    let number = enter(&mut assembler.sections, name, header, None)?;
     let items = items_in(&assembler.sections, number);
     comment_bytes(&mut assembler.scratch, items, &text)?;
     assembler.put_scratch_into(pos, number)

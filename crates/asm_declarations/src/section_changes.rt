@@ -9,10 +9,11 @@ ghost use Rattle.asm_uses.specs.KnownIn.{known_in};
 ghost use Rattle.asm_operands.specs.Results.{if_some};
 ghost use Rattle.asm_words.specs.SectionWords as words_spec;
 ghost use Rattle.asm_declarations.specs.SectionChanges as spec;
-ghost use Rattle.asm_words.specs.SaidWords.{words_in};
+ghost use Rattle.asm_words.specs.SaidWords.{signature_in, words_in};
 ghost use Rattle.asm_base.specs.Tokens.{spelled};
 ghost use Rattle.asm_declarations.specs.SectionChanges.{bare, with_current, enter_named, enter_words, place_section, place_pushed, popped};
 ghost use Rattle.asm_values.specs.PlacedBy.{placed_by, PlacesBy};
+ghost use Rattle.asm_values.specs.State.{known_here};
 
 use asm_base::{NoMemory, Pos, Text, Token};
 use asm_expr::{Expr, Spelling};
@@ -21,11 +22,11 @@ use asm_operands::{Operands, PlaceCause, PlaceFault, constant_if};
 use asm_uses::{Naming, View, form_if};
 use asm_values::{Assembler, Entered};
 use asm_words::{
-    SectionWords, default_header, is_negative, said_flags, said_group, said_kind, says_merge,
-    section_words,
+    GroupWords, SectionWords, default_header, is_negative, said_flags, said_group, said_kind,
+    says_merge, section_words,
 };
 use bitflags::Flags;
-use std::alloc::{AllocError, Global};
+use std::alloc::Global;
 
 /// The most bytes of the name of a section.
 const MOST_NAME: usize = 0x1_0000;
@@ -109,6 +110,18 @@ fn entry_size_in(alloc: Global, view: View, expr: &Option<Expr>) -> Result<Optio
     }
 }
 
+/// The same at the place of a statement, which is not looked for where nothing is said.
+#[tactic(auto, unfolding(crate::specs::SectionChanges::entry_size_in))]
+fn entry_size_here(assembler: &Assembler, expr: &Option<Expr>) -> Result<Option<u64>, PlaceFault>
+    ensures { GivesBy (λ size. size) result (spec.entry_size_in
+        (known_here (placed_by assembler.now)) (option_map tree_of expr.now)) }
+{
+    match expr {
+        Some(_) => entry_size_in(assembler.alloc, assembler.view(), expr),
+        None => Ok(None),
+    }
+}
+
 /// The flags that are said, if any are.
 fn flags_if(letters: &Option<Vec<u8>>) -> Result<Option<u64>, PlaceFault>
     ensures { GivesBy (λ flags. flags) result
@@ -139,9 +152,10 @@ pub struct Header {
     pub entry_size: u64,
 }
 
-/// What the header of the section of these words says.
+/// What the header of the section of these words says, by the section that is there.
+#[inline(never)]
 #[tactic(auto, unfolding(crate::specs::SectionChanges::header_by), using(crate::proofs::GroupFlags::header_flagged))]
-fn header_of(
+fn header_there(
     sections: &Sections,
     words: &SectionWords,
     size: Option<u64>,
@@ -162,10 +176,47 @@ fn header_of(
     })
 }
 
+/// The flags that the letters ask for, which say whether the section is in a group.
+#[tactic(auto, using(crate::proofs::GroupFlags::said_flagged))]
+fn flags_of(letters: &[u8]) -> Result<u64, PlaceFault>
+    ensures value { GivesBy (λ flags. flags) result (words_spec.said_flags letters.now) }
+    ensures flagged { IfOk result (λ flags. says_group (section_flags flags)
+        ≡ words_spec.has_letter 71 letters.now) }
+{
+    said_flags(letters)
+}
+
+/// What the header of the section of these words says. Where they say flags and type, the section that
+/// is there adds nothing, and is not looked for.
+#[tactic(auto, unfolding(crate::specs::SectionChanges::header_by))]
+fn header_of(
+    sections: &Sections,
+    words: &SectionWords,
+    size: Option<u64>,
+) -> Result<Header, PlaceFault>
+    ensures value { GivesBy (λ header. header) result
+        (spec.header_by sections.now (words_in words.now) size) }
+    ensures flagged { IfOk result (λ header. says_group (section_flags header.flags)
+        ≡ words_spec.says_grouped (words_in words.now).flags) }
+{
+    match (&words.flags, &words.kind) {
+        (Some(letters), Some(name)) => {
+            let flags = flags_of(letters)?;
+            let kind = said_kind(name)?;
+            let entry_size = merge_size(says_merge(&words.flags), size)?;
+            Ok(Header {
+                flags,
+                kind,
+                entry_size,
+            })
+        }
+        _ => header_there(sections, words, size),
+    }
+}
+
 /// Whether the signature has more bytes than a statement.
-fn has_long_signature(group: Option<(&Spelling, bool)>) -> bool
-    ensures { result ≡ spec.has_long_signature
-        (option_map (λ group. (group.0.now, group.1)) group.entry) }
+fn has_long_signature(group: &Option<(Text, bool)>) -> bool
+    ensures { result ≡ spec.has_long_signature group.now }
 {
     match group {
         Some((signature, _)) => signature.as_bytes().len() > MOST_NAME,
@@ -173,15 +224,11 @@ fn has_long_signature(group: Option<(&Spelling, bool)>) -> bool
     }
 }
 
-/// A copy of the group that is said.
-fn copied_group(
-    alloc: Global,
-    group: Option<(&Spelling, bool)>,
-) -> Result<Option<(Text, bool)>, AllocError>
-    ensures { IfOk result (λ copied. copied
-        ≡ option_map (λ group. (group.0.now, group.1)) group.entry) }
+/// The group that the words say, with a copy of its signature.
+fn group_said(alloc: Global, words: &SectionWords) -> Result<Option<(Text, bool)>, PlaceFault>
+    ensures { GivesBy (λ group. group) result (words_spec.said_group (words_in words.now)) }
 {
-    match group {
+    match said_group(words)? {
         Some((signature, comdat)) => {
             let text = Text::new(Vec::from_slice(alloc, signature.as_bytes())?);
             Ok(Some((text, comdat)))
@@ -194,25 +241,27 @@ fn copied_group(
 /// not there.
 #[tactic(auto, unfolding(crate::specs::SectionChanges::entered_for))]
 pub(crate) fn enter(
-    alloc: Global,
     sections: &mut Sections,
-    name: &[u8],
+    name: Vec<u8>,
     header: Header,
-    group: Option<(&Spelling, bool)>,
+    group: Option<(Text, bool)>,
 ) -> Result<u32, PlaceFault>
     requires { says_group (section_flags header.flags) ≡ is_some group }
     ensures { GivesBy (λ number. (sections.new, number)) result
-        (spec.entered_for (option_map (λ group. (group.0.now, group.1)) group.entry) sections.old
-        name.now header) }
+        (spec.entered_for group sections.old name.items header) }
 {
-    if name.len() > MOST_NAME || has_long_signature(group) {
+    if name.len() > MOST_NAME || has_long_signature(&group) {
         return Err(PlaceFault::Fault(PlaceCause::BadSection));
     }
-    let text = Text::new(Vec::from_slice(alloc, name)?);
     let flags = SectionFlags::from_bits_retain(header.flags);
-    let group = copied_group(alloc, group)?;
     sections
-        .enter(text, flags, header.kind, header.entry_size, group)
+        .enter(
+            Text::new(name),
+            flags,
+            header.kind,
+            header.entry_size,
+            group,
+        )
         .map_err(FragFault::raise)
 }
 
@@ -220,14 +269,16 @@ pub(crate) fn enter(
 fn name_signature(
     assembler: &mut Assembler,
     pos: Pos,
-    signature: &Option<Spelling>,
+    group: &Option<Box<GroupWords>>,
 ) -> Result<(), NoMemory>
     ensures placed { OnOk result (placed_by assembler.new
-        ≡ spec.with_signature pos signature.now (placed_by assembler.old)) }
+        ≡ spec.with_signature pos (signature_in group.now) (placed_by assembler.old)) }
     ensures kept { assembler.new.notes ≡ assembler.old.notes }
 {
-    if let Some(signature) = signature {
-        assembler.table.intern_text(pos, signature.as_bytes())?;
+    if let Some(group) = group {
+        if let Some(signature) = &group.signature {
+            assembler.table.intern_text(pos, signature.as_bytes())?;
+        }
     }
     Ok(())
 }
@@ -253,22 +304,16 @@ pub fn set_current(assembler: &mut Assembler, number: u32)
 fn enter_named(
     assembler: &mut Assembler,
     naming: Naming,
-    words: &SectionWords,
+    words: SectionWords,
 ) -> Result<(), PlaceFault>
-    ensures placed { PlacesBy (enter_named (words_in words.now) naming)
+    ensures placed { PlacesBy (enter_named (words_in words) naming)
         assembler.old assembler.new result }
     ensures kept { assembler.new.notes ≡ assembler.old.notes }
 {
-    let size = entry_size_in(assembler.alloc, assembler.view(), &words.entry_size)?;
-    let header = header_of(&assembler.sections, words, size)?;
-    let group = said_group(words)?;
-    let number = enter(
-        assembler.alloc,
-        &mut assembler.sections,
-        &words.name,
-        header,
-        group,
-    )?;
+    let size = entry_size_here(assembler, &words.entry_size)?;
+    let header = header_of(&assembler.sections, &words, size)?;
+    let group = group_said(assembler.alloc, &words)?;
+    let number = enter(&mut assembler.sections, words.name, header, group)?;
     assembler.table.allow(naming)?;
     set_current(assembler, number);
     Ok(())
@@ -276,14 +321,14 @@ fn enter_named(
 
 /// Statements put into the section of these words.
 #[tactic(auto, unfolding(crate::specs::SectionChanges::enter_words))]
-fn enter_words(assembler: &mut Assembler, pos: Pos, words: &SectionWords) -> Result<(), PlaceFault>
-    ensures placed { PlacesBy (enter_words pos (words_in words.now))
+fn enter_words(assembler: &mut Assembler, pos: Pos, words: SectionWords) -> Result<(), PlaceFault>
+    ensures placed { PlacesBy (enter_words pos (words_in words))
         assembler.old assembler.new result }
     ensures kept { assembler.new.notes ≡ assembler.old.notes }
 {
     let exprs = option_exprs(&words.entry_size);
     let naming = assembler.table.intern_trees(pos, exprs)?;
-    name_signature(assembler, pos, &words.signature)?;
+    name_signature(assembler, pos, &words.group)?;
     enter_named(assembler, naming, words)
 }
 
@@ -299,7 +344,7 @@ pub fn place_section(
     ensures kept { assembler.new.notes ≡ assembler.old.notes }
 {
     let words = section_words(assembler.alloc, &mut Operands::new(tokens))?;
-    enter_words(assembler, pos, &words)
+    enter_words(assembler, pos, words)
 }
 
 /// `.pushsection`: `.popsection` comes back to where this stands.

@@ -2,7 +2,6 @@
 use Rattle.std.proofs.Common.{◌≡◌, ℕ, List, ◌∷◌, Ok, ap, [], ◌∙◌}
 use Rattle.asm_base.specs.Tokens.{SpelledToken}
 use Rattle.asm_base.specs.Refusals.{◌>>=◌}
-use Rattle.expr_texts.specs.Reading.{read}
 use Rattle.asm_operands.specs.Operands.{name_of, needed}
 use Rattle.asm_expr.specs.declared.naming.Name.TheVariants.{Plain}
 use Rattle.asm_symbols.specs.declared.entries.Kind.{Kind}

@@ -4,3 +4,4 @@ pub mod SlotLemmas
 pub mod TokenLists
 pub mod NameParts
 pub mod KindLemmas
+pub mod OperandEnds

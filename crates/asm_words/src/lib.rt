@@ -16,7 +16,7 @@ pub use directives::{
 pub use paddings::{align_of, org_of};
 pub use section_defaults::{DefaultHeader, default_header};
 pub use section_operands::{
-    SectionWords, said_flags, said_group, said_kind, says_merge, section_words,
+    GroupWords, SectionWords, said_flags, said_group, said_kind, says_merge, section_words,
 };
 pub use space_sizes::{is_negative, log_of, space_of, space_size, unit_size, units_of};
 pub use symbol_kinds::{BareKind, NamedKind, bare_kind, named_kind};

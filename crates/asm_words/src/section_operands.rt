@@ -1,6 +1,6 @@
 //! The operands of `.section` (GNU as manual, ".section", ELF version).
 
-ghost use Rattle.std.specs.Prelude.{◌≡◌, ◌≤◌, map, option_map, Ok};
+ghost use Rattle.std.specs.Prelude.{◌≡◌, ◌≤◌, map, option_map, true, Some, Ok, IfOk};
 ghost use Rattle.std.specs.List.{list_all};
 ghost use Rattle.asm_base.specs.Tokens.{spelled};
 ghost use Rattle.asm_expr.specs.Trees.{tree_of};
@@ -8,7 +8,7 @@ ghost use Rattle.asm_base.specs.Refusals.{GivesBy};
 ghost use Rattle.asm_operands.specs.OperandParts.{operands_left, Takes};
 ghost use Rattle.asm_operands.specs.Operands.{string_of, needed};
 ghost use Rattle.asm_words.specs.SectionWords as spec;
-ghost use Rattle.asm_words.specs.SaidWords.{words_in};
+ghost use Rattle.asm_words.specs.SaidWords.{linkage_in, signature_in, words_in};
 
 use asm_base::{Token, TokenKind};
 use asm_expr::{Expr, Spelling};
@@ -19,7 +19,15 @@ use asm_operands::{
     Operands, PlaceCause, PlaceFault, checked_name, expression_of, is_dot, is_mark, is_name,
     no_more, string_of, symbol_name,
 };
-use std::alloc::Global;
+use std::alloc::{AllocError, Global};
+
+/// What `.section` says of a group.
+#[derive(Drop)]
+pub struct GroupWords {
+    pub signature: Option<Spelling>,
+    /// The word behind the signature.
+    pub linkage: Option<Vec<u8>>,
+}
 
 /// What `.section` says.
 #[derive(Drop)]
@@ -30,10 +38,8 @@ pub struct SectionWords {
     /// The name of the type.
     pub kind: Option<Vec<u8>>,
     pub entry_size: Option<Expr>,
-    /// The signature of the group.
-    pub signature: Option<Spelling>,
-    /// The word behind the signature.
-    pub linkage: Option<Vec<u8>>,
+    /// In a box: most sections are in no group.
+    pub group: Option<Box<GroupWords>>,
 }
 
 /// Whether the second token stands right behind the first.
@@ -188,7 +194,20 @@ fn signature_of(alloc: Global, operand: &[Token]) -> Result<Spelling, PlaceFault
     }
 }
 
-/// The next operand, which is a signature unless it is missing, where one may stand.
+/// The next operand, which is a signature unless it is missing.
+#[inline(never)]
+fn next_signature(alloc: Global, operands: &mut Operands) -> Result<Option<Spelling>, PlaceFault>
+    ensures { Takes (λ name. name) (spec.missing_or spec.signature_of)
+        operands.old operands.new result }
+{
+    match operands.next() {
+        None => Ok(None),
+        Some(operand) => Ok(Some(signature_of(alloc, operand)?)),
+    }
+}
+
+/// The same, where one may stand.
+#[inline(always)]
 fn signature_if(
     alloc: Global,
     may: bool,
@@ -197,12 +216,10 @@ fn signature_if(
     ensures { Takes (λ name. name) (spec.operand_if spec.signature_of may)
         operands.old operands.new result }
 {
-    if !may {
-        return Ok(None);
-    }
-    match operands.next() {
-        None => Ok(None),
-        Some(operand) => Ok(Some(signature_of(alloc, operand)?)),
+    if may {
+        next_signature(alloc, operands)
+    } else {
+        Ok(None)
     }
 }
 
@@ -217,17 +234,28 @@ fn word_of(alloc: Global, operand: &[Token]) -> Result<Vec<u8>, PlaceFault>
     }
 }
 
-/// The next operand, which is a word unless it is missing, where one may stand.
+/// The next operand, which is a word unless it is missing.
+#[inline(never)]
+fn next_word(alloc: Global, operands: &mut Operands) -> Result<Option<Vec<u8>>, PlaceFault>
+    ensures { Takes (option_map (λ word. word.items)) (spec.missing_or spec.word_of)
+        operands.old operands.new result }
+{
+    match operands.next() {
+        None => Ok(None),
+        Some(operand) => Ok(Some(word_of(alloc, operand)?)),
+    }
+}
+
+/// The same, where one may stand.
+#[inline(always)]
 fn word_if(alloc: Global, may: bool, operands: &mut Operands) -> Result<Option<Vec<u8>>, PlaceFault>
     ensures { Takes (option_map (λ word. word.items)) (spec.operand_if spec.word_of may)
         operands.old operands.new result }
 {
-    if !may {
-        return Ok(None);
-    }
-    match operands.next() {
-        None => Ok(None),
-        Some(operand) => Ok(Some(word_of(alloc, operand)?)),
+    if may {
+        next_word(alloc, operands)
+    } else {
+        Ok(None)
     }
 }
 
@@ -251,8 +279,33 @@ pub fn says_merge(letters: &Option<Vec<u8>>) -> bool
     }
 }
 
+/// These words in a box.
+#[inline(never)]
+fn boxed_words(alloc: Global, words: GroupWords) -> Result<Option<Box<GroupWords>>, AllocError>
+    ensures { IfOk result (λ boxed. option_map (λ it. it.value) boxed ≡ Some words) }
+{
+    Ok(Some(Box::new(alloc, words)?))
+}
+
+/// What is said of a group, if anything is.
+#[inline(always)]
+fn group_words(
+    alloc: Global,
+    signature: Option<Spelling>,
+    linkage: Option<Vec<u8>>,
+) -> Result<Option<Box<GroupWords>>, AllocError>
+    ensures signature { IfOk result (λ group. signature_in group ≡ signature) }
+    ensures linkage { IfOk result (λ group.
+        linkage_in group ≡ option_map (λ word. word.items) linkage) }
+{
+    if signature.is_none() && linkage.is_none() {
+        return Ok(None);
+    }
+    boxed_words(alloc, GroupWords { signature, linkage })
+}
+
 /// What `.section` says by these operands.
-#[tactic(auto, unfolding(crate::specs::SectionWords::section_words))]
+#[tactic(auto, unfolding(crate::specs::SectionWords::section_words), using(crate::proofs::OperandEnds::ended))]
 pub fn section_words(alloc: Global, operands: &mut Operands) -> Result<SectionWords, PlaceFault>
     ensures { GivesBy words_in result (spec.section_words (operands_left operands.old)) }
 {
@@ -263,17 +316,15 @@ pub fn section_words(alloc: Global, operands: &mut Operands) -> Result<SectionWo
     let in_group = says_grouped(&flags);
     let signature = signature_if(alloc, in_group, operands)?;
     let linkage = word_if(alloc, in_group, operands)?;
-    no_more(
-        operands,
-        SectionWords {
-            name,
-            flags,
-            kind,
-            entry_size,
-            signature,
-            linkage,
-        },
-    )
+    no_more(operands, ())?;
+    let group = group_words(alloc, signature, linkage)?;
+    Ok(SectionWords {
+        name,
+        flags,
+        kind,
+        entry_size,
+        group,
+    })
 }
 
 /// Whether a linker keeps one alone of the groups of a signature with this word behind it.
@@ -288,6 +339,19 @@ fn comdat_by(linkage: &Option<Vec<u8>>) -> Result<bool, PlaceFault>
     }
 }
 
+/// The group that these words say.
+#[inline(never)]
+fn group_of(words: &GroupWords) -> Result<Option<(&Spelling, bool)>, PlaceFault>
+    ensures { GivesBy (option_map (λ group. (group.0.now, group.1))) result
+        (spec.group_by true words.now.signature
+        (option_map (λ word. word.items) words.now.linkage)) }
+{
+    match &words.signature {
+        Some(signature) => Ok(Some((signature, comdat_by(&words.linkage)?))),
+        None => Err(PlaceFault::Fault(PlaceCause::BadSection)),
+    }
+}
+
 /// The group that the words say, by its signature, and whether a linker keeps one alone of that.
 pub fn said_group(words: &SectionWords) -> Result<Option<(&Spelling, bool)>, PlaceFault>
     ensures { GivesBy (option_map (λ group. (group.0.now, group.1))) result
@@ -296,8 +360,8 @@ pub fn said_group(words: &SectionWords) -> Result<Option<(&Spelling, bool)>, Pla
     if !says_grouped(&words.flags) {
         return Ok(None);
     }
-    match &words.signature {
-        Some(signature) => Ok(Some((signature, comdat_by(&words.linkage)?))),
+    match &words.group {
+        Some(group) => group_of(group),
         None => Err(PlaceFault::Fault(PlaceCause::BadSection)),
     }
 }
