@@ -2,7 +2,8 @@
 
 use asm_base::{Place, Pos, SectionPlace};
 use cfi_directives::{CfiLine, Directives, DwarfRegister, Frame, Frames, PlacedOps, RowDirective};
-use cfi_rows::{CfiOp, op_bytes};
+use cfi_entries::op_bytes;
+use cfi_rows::CfiOp;
 use row_texts::{
     write_count, write_displayed, write_line, write_number, write_spaced_code, write_text,
 };

@@ -1,6 +1,7 @@
 //! The frame table of an object, by its bytes.
 
-use cfi_rows::{CfaRow, diff, row_at};
+use cfi_entries::row_at;
+use cfi_rows::{CfaRow, diff};
 use elf_file::{section_bytes, section_header, section_named};
 use frame_rows::write_row;
 use memory_outside::MemoryOutput;

@@ -1,7 +1,7 @@
 -- Instructions at the addresses of their places.
 use Rattle.std.proofs.Common.{◌≡◌, ℕ, List, [], ◌∷◌, map, Option, None, Some, refl}
 use Rattle.std.specs.Option.{option_and_then}
-use Rattle.cfi_rows.specs.Places as placing
+use Rattle.cfi_entries.specs.Places as placing
 use Rattle.cfi_rows.specs.Rows.{Rows, common_row, changed, start_rows, ops_after}
 use Rattle.cfi_directives.specs.declared.frames.PlacedOp.{PlacedOp}
 use Rattle.asm_base.specs.declared.places.Place.{Place}

@@ -3,7 +3,7 @@ use Rattle.std.proofs.Common.{◌≡◌, true, false, List, [], ◌∷◌, ◌++
 use Rattle.std.specs.Prelude.{if◌then◌else◌, IsSome}
 use Rattle.std.specs.Option.{option_map}
 use Rattle.std.proofs.lemmas.List.Elements.{All-push}
-use Rattle.cfi_rows.specs.Written.{written}
+use Rattle.cfi_entries.specs.Written.{written}
 use Rattle.cfi_directives.specs.declared.faults.CfiCause.TheVariants.{UnbalancedCfiState}
 use Rattle.cfi_directives.specs.declared.frames.Frame.{Frame}
 use Rattle.cfi_directives.specs.declared.frames.PlacedOp.{PlacedOp}

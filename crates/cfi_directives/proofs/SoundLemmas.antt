@@ -5,7 +5,7 @@ use Rattle.std.proofs.lemmas.List.Elements.{All-push, All-nil}
 use Rattle.cfi_rows.specs.declared.rows.CfiOp.{CfiOp}
 use Rattle.cfi_rows.specs.declared.rows.CfiOp.TheVariants as op
 use Rattle.cfi_rows.specs.declared.rows.Rule.TheVariants as rule
-use Rattle.cfi_rows.specs.Written.{written}
+use Rattle.cfi_entries.specs.Written.{written}
 use Rattle.cfi_directives.specs.declared.faults.CfiCause.TheVariants.{OutOfRange}
 use Rattle.cfi_directives.specs.declared.frames.Frame.{Frame}
 use Rattle.cfi_directives.specs.declared.frames.PlacedOp.{PlacedOp}

@@ -7,7 +7,7 @@ use Rattle.cfi_rows.specs.declared.rows.CfiOp.TheVariants.{DefCfa, DefCfaRegiste
 use Rattle.cfi_rows.specs.declared.rows.Rule.{Rule}
 use Rattle.cfi_rows.specs.declared.rows.Rule.TheVariants.{Unspecified, Undefined, SameValue, Offset, ValueOffset, Register}
 use Rattle.leb128.specs.Digits.{uleb_bytes, sleb_bytes}
-use Rattle.cfi_rows.specs.Written.{written, slots, cfa_offset, rule_offset, rule_written, of_register}
+use Rattle.cfi_entries.specs.Written.{written, slots, cfa_offset, rule_offset, rule_written, of_register}
 use Rattle.cfi_directives.specs.Writable.{is_slot_offset, is_cfa_offset, is_writable_rule, is_writable}
 
 -- a choice has a value where its test holds

@@ -1,7 +1,7 @@
 -- The row in force behind instructions of a procedure.
 use Rattle.std.specs.Prelude.{ℕ, List, map, Option}
 use Rattle.cfi_rows.specs.Rows.{Rows, start_rows, common_row, ops_after}
-use Rattle.cfi_rows.specs.Places.{Placed}
+use Rattle.cfi_entries.specs.Places.{Placed}
 use Rattle.cfi_directives.specs.declared.frames.PlacedOp.{PlacedOp}
 use Rattle.asm_base.specs.declared.places.Place.{Place}
 

@@ -1,6 +1,6 @@
 -- What holds of each procedure.
 use Rattle.std.specs.Prelude.{◌≡◌, All, IsSome, IfSome, None}
-use Rattle.cfi_rows.specs.Written.{written}
+use Rattle.cfi_entries.specs.Written.{written}
 use Rattle.cfi_directives.specs.declared.frames.Frame.{Frame}
 use Rattle.cfi_directives.specs.Procedures.{Procedures}
 use Rattle.cfi_directives.specs.Rows.{rows_after}

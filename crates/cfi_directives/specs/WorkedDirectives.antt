@@ -3,7 +3,7 @@ use Rattle.std.specs.Prelude.{◌≡◌, ℕ, ◌+◌, ◌-◌, ℤ, pos, neg_�
 use Rattle.std.proofs.Common.{lit<}
 use Rattle.asm_base.specs.declared.positions.Pos.{Pos}
 use Rattle.cfi_rows.specs.Rows.{common_row, with_cfa, with_rule}
-use Rattle.cfi_rows.specs.Written.{written}
+use Rattle.cfi_entries.specs.Written.{written}
 use Rattle.cfi_rows.specs.declared.rows.CfaRow.{CfaRow}
 use Rattle.cfi_rows.specs.declared.rows.CfiOp.{CfiOp}
 use Rattle.cfi_rows.specs.declared.rows.CfiOp.TheVariants as op

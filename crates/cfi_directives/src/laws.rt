@@ -3,9 +3,9 @@
 ghost use Rattle.std.specs.Prelude.{◌≡◌, ℕ, ◌<◌, ◌≤◌, List, [], ◌∷◌, ◌++◌, All, IsSome, None, Ok, Err, is_some};
 ghost use Rattle.std.specs.Option.{option_map};
 ghost use Rattle.cfi_rows.specs.declared.rows.CfiOp.{CfiOp};
-ghost use Rattle.cfi_rows.specs.Places as places;
+ghost use Rattle.cfi_entries.specs.Places as places;
 ghost use Rattle.cfi_rows.specs.Rows.{common_row, start_rows};
-ghost use Rattle.cfi_rows.specs.Written.{written};
+ghost use Rattle.cfi_entries.specs.Written.{written};
 ghost use Rattle.cfi_directives.specs.declared.faults.CfiCause.{CfiCause};
 ghost use Rattle.cfi_directives.specs.declared.lines.CfiLine.{CfiLine};
 ghost use Rattle.cfi_directives.specs.declared.lines.CfiLine.TheVariants.{Row};

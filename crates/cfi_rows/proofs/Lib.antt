@@ -1,16 +1,1 @@
-pub mod Comparisons
-pub mod NumberLemmas
-pub mod RunLemmas
-pub mod PlacedLemmas
-pub mod OperandLemmas
-pub mod FairLemmas
-pub mod PieceLemmas
-pub mod WrittenLemmas
-pub mod CommonLemmas
-pub mod EncodingLemmas
-pub mod FormOfBytes
-pub mod EntryLemmas
-pub mod DifferenceLemmas
-pub mod RowListLemmas
-pub mod WorkedEntries
-pub mod FormLemmas
+mod DifferenceLemmas

@@ -1,12 +1,11 @@
 -- The instructions that lead from one row to another.
-use Rattle.std.specs.Prelude.{◌≡◌, ℕ, ◌+◌, Bool, true, false, ◌==◌, ◌⊎◌, List, [], ◌∷◌, ◌++◌, Some, IsSome, slice_get, if◌then◌else◌}
+use Rattle.std.specs.Prelude.{◌≡◌, ℕ, ◌+◌, Bool, true, false, ◌==◌, ◌⊎◌, List, [], ◌∷◌, ◌++◌, Some, slice_get, if◌then◌else◌}
 use Rattle.std.specs.Ordering.{int_eq}
 use Rattle.cfi_rows.specs.declared.rows.CfaRow.{CfaRow}
 use Rattle.cfi_rows.specs.declared.rows.CfiOp.{CfiOp}
 use Rattle.cfi_rows.specs.declared.rows.CfiOp.TheVariants.{DefCfa, DefCfaRegister, DefCfaOffset, Set, Restore}
 use Rattle.cfi_rows.specs.declared.rows.Rule.{Rule}
 use Rattle.cfi_rows.specs.declared.rows.Rule.TheVariants.{Unspecified, Undefined, SameValue, Offset, ValueOffset, Register}
-use Rattle.cfi_rows.specs.Written.{written}
 
 -- the CFA's instruction, by whether its register and its offset are the same: def_cfa_register, def_cfa_offset, or def_cfa for both
 abbrev pub cfa_change : Bool → Bool → CfaRow → List CfiOp
@@ -47,9 +46,3 @@ differences from to = cfa_change_of from to ++ rule_changes 0 from.rules to.rule
 abbrev pub IsReached : CfaRow → CfaRow → CfaRow → Type 0
 IsReached initial from to = (number : ℕ) → slice_get to.rules number ≡ Some Unspecified
     → (slice_get from.rules number ≡ Some Unspecified) ⊎ (slice_get initial.rules number ≡ Some Unspecified)
-
--- the second row's CFA can be written, and each rule of it stands in the first already or can be written
-abbrev pub HaveForms : CfaRow → CfaRow → Type 0
-HaveForms from to = IsSome (written (DefCfa to.register to.offset))
-    × ((number : ℕ) (rule : Rule) → slice_get to.rules number ≡ Some rule
-    → (slice_get from.rules number ≡ Some rule) ⊎ IsSome (written (rule_op number rule)))

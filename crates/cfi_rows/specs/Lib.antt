@@ -1,12 +1,5 @@
 pub mod Rows
 pub mod Instructions
-pub mod Places
 pub mod Pointers
 pub mod Commons
-pub mod Entries
-pub mod Walks
-pub mod Written
-pub mod Lines
 pub mod Differences
-pub mod RowLists
-pub mod WorkedRows

@@ -127,7 +127,7 @@ fn with_letters(bytes: &[u8]) -> Option<(CommonForm, &[u8])>
 
 /// The form of a common entry, and its instructions.
 #[tactic(auto, unfolding(crate::specs::Commons::common_of))]
-pub(crate) fn common(cie: &[u8]) -> Option<(CommonForm, &[u8])>
+pub fn common(cie: &[u8]) -> Option<(CommonForm, &[u8])>
     ensures value { option_map (λ r. (r.0, r.1.now)) result ≡ spec.common_of cie.now }
     ensures short { IfSome result (λ r. length r.1.now < 8) }
 {

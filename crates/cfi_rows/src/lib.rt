@@ -1,28 +1,16 @@
-//! Rows of frame tables: what they are by bytes, and the instructions that lead from one to the next.
+//! Rows of frame tables, and what the bytes of their instructions, pointers and common entries mean.
 #![tactic(auto)]
 
-mod changing;
 mod commons;
 mod differences;
-mod entries;
 mod instructions;
-mod laws;
 mod operands;
 mod pointers;
 mod rows;
-mod running;
-mod writing;
 
-pub use changing::{blank_row, change, common_row};
-pub use commons::{CommonBytes, CommonForm, common_head, common_tail};
+pub use commons::{CommonBytes, CommonForm, common, common_head, common_tail};
 pub use differences::diff;
-pub use entries::row_at;
 pub use instructions::next_insn;
-pub use laws::{
-    common_entries_read, differences_lead, encodings_read_back, entries_read_back,
-    instructions_read_back, instructions_stand_in_row, numbers_are_least, rows_read_back,
-    rows_stand_at_places, worked_rows,
-};
-pub use pointers::PointerEncoding;
-pub use rows::{CfaRow, CfiBytes, CfiOp, CfiOps, Insn, Rule};
-pub use writing::op_bytes;
+pub use operands::four_bytes;
+pub use pointers::{PointerEncoding, size_if};
+pub use rows::{CfaRow, CfiBytes, CfiOp, CfiOps, Insn, Rule, blank_row};

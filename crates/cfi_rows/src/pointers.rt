@@ -89,7 +89,7 @@ impl PointerEncoding {
 }
 
 /// How many bytes a pointer has, where there is one.
-pub(crate) fn size_if(encoding: Option<PointerEncoding>) -> usize
+pub fn size_if(encoding: Option<PointerEncoding>) -> usize
     ensures { result ≡ spec.size_if encoding }
 {
     match encoding {

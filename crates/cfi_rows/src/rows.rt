@@ -1,5 +1,8 @@
 //! A row of a frame table, and the instructions that change it (DWARF 5, section 6.4).
 
+ghost use Rattle.std.specs.Prelude.{◌≡◌};
+ghost use Rattle.cfi_rows.specs.Rows as spec;
+
 use arrayvec::ArrayVec;
 
 /// How a register's value in the caller is found (DWARF 5, section 6.4.1). Offsets are in bytes from the CFA.
@@ -28,6 +31,25 @@ pub struct CfaRow {
     pub offset: i64,
     /// The rule of each register, by its DWARF number. 16 is the return address.
     pub rules: [Rule; 64],
+}
+
+/// The row before any instruction.
+pub fn blank_row() -> CfaRow
+    ensures { result ≡ spec.blank }
+{
+    CfaRow {
+        register: 0,
+        offset: 0,
+        rules: [Rule::Unspecified; 64],
+    }
+}
+
+impl Default for CfaRow {
+    fn default() -> Self
+        ensures { result ≡ spec.blank }
+    {
+        blank_row()
+    }
 }
 
 /// An instruction that changes the row. Registers are DWARF numbers, and offsets are in bytes: none is factored.

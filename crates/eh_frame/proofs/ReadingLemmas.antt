@@ -24,13 +24,13 @@ use Rattle.cfi_directives.specs.Rows.{rows_after}
 use Rattle.cfi_directives.specs.declared.frames.Pointer.{Pointer}
 use Rattle.cfi_rows.specs.declared.commons.CommonForm.{CommonForm}
 use Rattle.cfi_rows.specs.Commons.{common_entry}
-use Rattle.cfi_rows.specs.Entries.{row_of}
+use Rattle.cfi_entries.specs.Entries.{row_of}
 use Rattle.cfi_rows.specs.Pointers.{is_wide, size_if}
-use Rattle.cfi_rows.specs.Lines.{Form, absent, inside, in_byte, in_two, in_four, advance_bytes, IsRoom, Line, bytes_of, AreLines, ops_of, word_then, entry_bytes, row_due}
-use Rattle.cfi_rows.specs.Places.{Placed, up_to, row_after}
-use Rattle.cfi_rows.specs.Places.{rows_after as rows_behind}
+use Rattle.cfi_entries.specs.Lines.{Form, absent, inside, in_byte, in_two, in_four, advance_bytes, IsRoom, Line, bytes_of, AreLines, ops_of, word_then, entry_bytes, row_due}
+use Rattle.cfi_entries.specs.Places.{Placed, up_to, row_after}
+use Rattle.cfi_entries.specs.Places.{rows_after as rows_behind}
 use Rattle.cfi_rows.specs.Rows.{Rows, common_row, start_rows, changed, ops_after}
-use Rattle.cfi_rows.specs.Written.{written}
+use Rattle.cfi_entries.specs.Written.{written}
 use Rattle.table_pieces.specs.declared.marks.Mark.TheVariants.{Here, At}
 use Rattle.table_pieces.specs.Made.{Made, pieces_bytes, AreMade, IsSpan}
 use Rattle.table_pieces.specs.Pieces.{Piece, plain}

@@ -7,7 +7,7 @@ use Rattle.asm_base.specs.declared.places.SectionPlace.{SectionPlace}
 use Rattle.cfi_directives.specs.Meant.{from_start, row_meant, stands_at, stop_of}
 use Rattle.cfi_directives.specs.Sound.{IsWhole}
 use Rattle.cfi_rows.specs.Commons.{common_entry}
-use Rattle.cfi_rows.specs.Entries.{row_of}
+use Rattle.cfi_entries.specs.Entries.{row_of}
 use Rattle.cfi_rows.specs.Pointers.{size_if}
 use Rattle.table_pieces.specs.Made.{Made, pieces_bytes, AreMade}
 use Rattle.eh_frame.specs.Commons.{encoding_if, form_of}

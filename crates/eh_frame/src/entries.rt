@@ -15,7 +15,8 @@ use asm_base::{Place, SectionPlace};
 use asm_frags::{FragFault, Sections};
 use asm_symbols::Symbols;
 use cfi_directives::{Frame, PlacedOp};
-use cfi_rows::{CfiBytes, CfiOp, op_bytes};
+use cfi_entries::op_bytes;
+use cfi_rows::{CfiBytes, CfiOp};
 use std::alloc::Global;
 use table_pieces::{
     Distance, Mark, SectionEnd, Table, put_advance, put_number, put_padding, put_plain, put_pointer,

@@ -16,7 +16,7 @@ ghost use Rattle.eh_frame.specs.WorkedTables.{WorkedTables};
 ghost use Rattle.eh_frame.specs.StandingFrames.{LabelsStand};
 ghost use Rattle.eh_frame.specs.Reading.{EntriesRead, RowsAreMeant};
 
-use cfi_rows::entries_read_back;
+use cfi_entries::entries_read_back;
 use item_bytes::advances_hold_their_distance;
 use table_pieces::{
     ends_are_counted, pieces_are_found, pieces_bring_standing_labels, pieces_stand_behind,

@@ -9,7 +9,7 @@ use Rattle.asm_frags.specs.Fields.{low_bytes}
 use Rattle.asm_base.specs.declared.places.SectionPlace.{SectionPlace}
 use Rattle.cfi_directives.specs.declared.frames.Pointer.{Pointer}
 use Rattle.cfi_rows.specs.declared.commons.CommonForm.{CommonForm}
-use Rattle.cfi_rows.specs.Entries.{covered, after_back, after_length, entry_of}
+use Rattle.cfi_entries.specs.Entries.{covered, after_back, after_length, entry_of}
 use Rattle.cfi_rows.specs.Instructions.{four_bytes_of}
 use Rattle.cfi_rows.specs.Pointers.{size_if}
 use Rattle.eh_frame.specs.Commons.{encoding_if, with_pointer}

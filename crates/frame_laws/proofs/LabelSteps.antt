@@ -12,7 +12,7 @@ use Rattle.asm_base.specs.declared.places.SectionPlace.{SectionPlace}
 use Rattle.asm_frags.specs.Fields.{width}
 use Rattle.cfi_directives.specs.declared.frames.Pointer.{Pointer}
 use Rattle.cfi_rows.specs.Commons.{common_head, common_tail}
-use Rattle.cfi_rows.specs.Written.{written}
+use Rattle.cfi_entries.specs.Written.{written}
 use Rattle.table_pieces.specs.declared.ends.SectionEnd.{SectionEnd}
 use Rattle.table_pieces.specs.Counts.{labels_in, bytes_in, labels_of, bytes_of, PiecesAreCounted}
 use Rattle.table_pieces.specs.Pieces.{Piece, plain, Tables, Takes, piece_put, pieces_put}

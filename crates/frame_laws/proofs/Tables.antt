@@ -23,7 +23,7 @@ use Rattle.cfi_directives.specs.declared.frames.PlacedOp.{PlacedOp}
 use Rattle.cfi_directives.specs.declared.frames.Pointer.{Pointer}
 use Rattle.cfi_rows.specs.declared.commons.CommonForm.{CommonForm}
 use Rattle.cfi_rows.specs.Commons.{common_head, common_length}
-use Rattle.cfi_rows.specs.Written.{written}
+use Rattle.cfi_entries.specs.Written.{written}
 use Rattle.section_laws.specs.Within.{IsWithin}
 use Rattle.table_pieces.specs.declared.ends.SectionEnd.{SectionEnd}
 use Rattle.table_pieces.specs.Ends.{behind_pieces, end_place, run_end, no_end, end_of}

@@ -7,7 +7,7 @@ use Rattle.cfi_rows.specs.declared.rows.CfiOp.TheVariants.{DefCfa, DefCfaRegiste
 use Rattle.cfi_rows.specs.declared.rows.Rule.{Rule}
 use Rattle.cfi_rows.specs.declared.rows.Rule.TheVariants.{Unspecified, Undefined, SameValue, Offset, ValueOffset, Register}
 use Rattle.leb128.specs.Digits.{uleb_bytes, sleb_bytes}
-use Rattle.cfi_rows.specs.Written.{slots, cfa_offset, rule_offset, rule_written, of_register, written}
+use Rattle.cfi_entries.specs.Written.{slots, cfa_offset, rule_offset, rule_written, of_register, written}
 use Rattle.eh_frame.specs.Entries.{op_code}
 
 -- what is there has at least one byte

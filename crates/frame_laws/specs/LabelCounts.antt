@@ -1,7 +1,7 @@
 -- How many labels a frame table brings.
 use Rattle.std.specs.Prelude.{ℕ, ◌+◌, ◌*◌, ◌≤◌, List, length, All, IsSome, IsSomeAnd, slice_get}
 use Rattle.cfi_directives.specs.declared.frames.Frame.{Frame}
-use Rattle.cfi_rows.specs.Written.{written}
+use Rattle.cfi_entries.specs.Written.{written}
 use Rattle.table_pieces.specs.Pieces.{Tables, Takes}
 use Rattle.eh_frame.specs.Placing.{table_put}
 

@@ -8,7 +8,7 @@ use Rattle.cfi_directives.specs.Meant.{from_start, place_in, row_meant, stop_of}
 use Rattle.cfi_directives.specs.declared.frames.Pointer.{Pointer}
 use Rattle.cfi_rows.specs.declared.commons.CommonForm.{CommonForm}
 use Rattle.cfi_rows.specs.Commons.{common_entry, common_head, common_length}
-use Rattle.cfi_rows.specs.Entries.{entry_of, row_of}
+use Rattle.cfi_entries.specs.Entries.{entry_of, row_of}
 use Rattle.cfi_rows.specs.Instructions.{four_bytes_of}
 use Rattle.cfi_rows.specs.Pointers.{size_if}
 use Rattle.table_pieces.specs.Pieces.{Tables}

@@ -4,7 +4,7 @@ ghost use Rattle.frame_laws.specs.TableReads.{FrameTablesRead};
 
 use crate::counts::labels_are_few;
 use asm_relax::layouts_keep_sections;
-use cfi_rows::common_entries_read;
+use cfi_entries::common_entries_read;
 use eh_frame::{entries_read, tables_are_found, tables_stand_behind};
 use piece_laws::{places_rise, tables_are_in_file};
 use table_pieces::{ends_are_counted, places_are_named, sections_keep_places};

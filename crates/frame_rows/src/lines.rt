@@ -2,7 +2,8 @@
 
 use crate::entries::{COMMON, entry_bytes};
 use crate::shown::{write_differences, write_row};
-use cfi_rows::{CfaRow, common_row, row_at};
+use cfi_entries::{common_row, row_at};
+use cfi_rows::CfaRow;
 use row_texts::{write_line, write_number, write_text};
 use std::alloc::Global;
 use std::io;

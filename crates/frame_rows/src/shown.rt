@@ -1,6 +1,7 @@
 //! Rows as text, as `readelf -wF` shows them, with registers by their DWARF numbers.
 
-use cfi_rows::{CfaRow, Rule, diff, op_bytes};
+use cfi_entries::op_bytes;
+use cfi_rows::{CfaRow, Rule, diff};
 use row_texts::{write_code, write_number, write_text};
 use std::io::{self, Write};
 

@@ -3,7 +3,7 @@
 ghost use Rattle.std.specs.Prelude.{◌<◌, length};
 
 use asm_base::{SavedRegister, ScfiFault};
-use cfi_rows::op_bytes;
+use cfi_entries::op_bytes;
 use flow_graph::{Graph, Node};
 use row_texts::{write_code, write_line, write_number, write_text};
 use scfi_pass::ItemOp;

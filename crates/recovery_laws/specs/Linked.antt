@@ -8,7 +8,7 @@ use Rattle.asm_relax.specs.Settling.{LaidItem, LaidSections}
 use Rattle.cfi_directives.specs.declared.frames.Frame.{Frame}
 use Rattle.cfi_rows.specs.declared.rows.CfaRow.{CfaRow}
 use Rattle.cfi_rows.specs.Commons.{common_entry, common_length}
-use Rattle.cfi_rows.specs.Entries.{row_of}
+use Rattle.cfi_entries.specs.Entries.{row_of}
 use Rattle.eh_frame.specs.Commons.{form_of}
 use Rattle.elf_file.specs.Sections.{no_bits}
 use Rattle.elf_object.specs.Contents.{section_relocations}

@@ -6,10 +6,10 @@ use Rattle.std.proofs.lemmas.Option.{slice_get_within}
 use Rattle.cfi_rows.specs.declared.rows.CfaRow.{CfaRow}
 use Rattle.cfi_rows.specs.declared.rows.CfiOp.{CfiOp}
 use Rattle.cfi_rows.specs.Rows.{start_rows, common_row}
-use Rattle.cfi_rows.specs.Places.{Placed, row_after}
+use Rattle.cfi_entries.specs.Places.{Placed, row_after}
 use Rattle.cfi_rows.specs.Differences.{differences}
-use Rattle.cfi_rows.specs.RowLists as lists
-use Rattle.cfi_rows.specs.RowLists.{RowPlace, row_at_place, at_place, Leads}
+use Rattle.cfi_entries.specs.RowLists as lists
+use Rattle.cfi_entries.specs.RowLists.{RowPlace, row_at_place, at_place, Leads}
 use Rattle.scfi_pass.specs.declared.rows.StackRow.{StackRow}
 use Rattle.scfi_pass.specs.declared.item_ops.ItemOp.{ItemOp}
 use Rattle.scfi_pass.specs.Rows.{whole_row}

@@ -7,7 +7,7 @@ use Rattle.asm_base.specs.declared.places.SectionPlace.{SectionPlace}
 use Rattle.cfi_rows.specs.declared.rows.CfaRow.{CfaRow}
 use Rattle.cfi_rows.specs.declared.rows.CfiOp.{CfiOp}
 use Rattle.cfi_rows.specs.Rows.{Rows, start_rows, common_row, ops_after}
-use Rattle.cfi_rows.specs.Places.{up_to, row_after}
+use Rattle.cfi_entries.specs.Places.{up_to, row_after}
 use Rattle.cfi_directives.specs.declared.frames.Frame.{Frame}
 use Rattle.cfi_directives.specs.Meant.{stop_of, from_start, ops_up_to, row_meant, KeepsOrder}
 use Rattle.cfi_directives.specs.Order.{IsUpTo, NeverFall}

@@ -5,7 +5,7 @@ use Rattle.std.proofs.lemmas.Bool.{cases_eq}
 use Rattle.std.proofs.lemmas.Bool.Decides.{nat_tests}
 use Rattle.std.proofs.lemmas.Int.{to_z_pos}
 use Rattle.std.proofs.Math.Facts.{to_z-neg}
-use Rattle.cfi_rows.specs.Written.{cfa_offset, of_register}
+use Rattle.cfi_entries.specs.Written.{cfa_offset, of_register}
 use Rattle.stack_depths.specs.Distances.{Distances}
 use Rattle.stack_facts.specs.Places.{below, gap, is_slot_place}
 use Rattle.stack_facts.specs.Facts.{Fact}

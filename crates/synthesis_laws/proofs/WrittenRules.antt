@@ -9,8 +9,9 @@ use Rattle.cfi_rows.specs.declared.rows.CfiOp.TheVariants.{DefCfa}
 use Rattle.cfi_rows.specs.declared.rows.Rule.{Rule}
 use Rattle.cfi_rows.specs.declared.rows.Rule.TheVariants.{Unspecified, Offset}
 use Rattle.cfi_rows.specs.Rows.{common_row}
-use Rattle.cfi_rows.specs.Written.{slots, cfa_offset, rule_written, written}
-use Rattle.cfi_rows.specs.Differences.{rule_op, HaveForms}
+use Rattle.cfi_entries.specs.Written.{slots, cfa_offset, rule_written, written}
+use Rattle.cfi_rows.specs.Differences.{rule_op}
+use Rattle.cfi_entries.specs.Written.{HaveForms}
 use Rattle.stack_facts.specs.Places.{is_slot_place}
 use Rattle.scfi_pass.specs.declared.rows.StackRow.{StackRow}
 use Rattle.scfi_pass.specs.Registers.{dwarf_number}

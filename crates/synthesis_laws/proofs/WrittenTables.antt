@@ -7,8 +7,9 @@ use Rattle.std.proofs.lemmas.List.Elements.{All-nil, All-cons, All-head, All-tai
 use Rattle.cfi_rows.specs.declared.rows.CfaRow.{CfaRow}
 use Rattle.cfi_rows.specs.declared.rows.CfiOp.{CfiOp}
 use Rattle.cfi_rows.specs.Rows.{Rows, rows_of, start_rows, common_row, changed, ops_after}
-use Rattle.cfi_rows.specs.Written.{written}
-use Rattle.cfi_rows.specs.Differences.{differences, IsReached, HaveForms}
+use Rattle.cfi_entries.specs.Written.{written}
+use Rattle.cfi_rows.specs.Differences.{differences, IsReached}
+use Rattle.cfi_entries.specs.Written.{HaveForms}
 use Rattle.cfi_directives.specs.declared.frames.Frame.{Frame}
 use Rattle.cfi_directives.specs.declared.frames.PlacedOp.{PlacedOp}
 use Rattle.cfi_directives.specs.Sound.{IsSound}

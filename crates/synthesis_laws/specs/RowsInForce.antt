@@ -1,7 +1,7 @@
 -- The rows that the instructions of a frame table give at the places of their items.
 use Rattle.std.specs.Prelude.{◌≡◌, ◌<◌, ◌≤◌, ℕ, List, map, length, Some, slice_get}
 use Rattle.cfi_rows.specs.Rows.{common_row, start_rows}
-use Rattle.cfi_rows.specs.Places.{Placed, row_after}
+use Rattle.cfi_entries.specs.Places.{Placed, row_after}
 use Rattle.code_functions.specs.declared.items.CodeItem.{CodeItem}
 use Rattle.flow_graph.specs.declared.nodes.Node.{Node}
 use Rattle.scfi_pass.specs.declared.rows.StackRow.{StackRow}

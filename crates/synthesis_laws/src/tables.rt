@@ -3,7 +3,7 @@
 ghost use Rattle.synthesis_laws.specs.RowsInForce.{TablesGiveRows};
 ghost use Rattle.synthesis_laws.specs.WrittenTables.{TablesAreOfItems, TablesCanBeWritten};
 
-use cfi_rows::{differences_lead, rows_stand_at_places};
+use cfi_entries::{differences_lead, rows_stand_at_places};
 use scfi_pass::rows_begin;
 
 /// Each instruction of a frame table has a form, and all of them can be run from the row of the
