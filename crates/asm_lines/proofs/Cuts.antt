@@ -12,8 +12,8 @@ use Rattle.asm_base.specs.declared.pieces.PieceKind.TheVariants as piece
 use Rattle.asm_base.specs.declared.tokens.TokenKind.{TokenKind}
 use Rattle.asm_base.specs.declared.tokens.TokenKind.TheVariants.{Name, Digits, Character, String, Operator, Other}
 use Rattle.asm_base.specs.Tokens.{is_long_operator, token_kind_by, token_kind, token_length}
-use Rattle.asm_lines.specs.Lexemes.{is_unclosed, makes_tokens}
-use Rattle.asm_lines.proofs.Lexing.{plain_kind}
+use Rattle.asm_lexemes.specs.Lexemes.{is_unclosed, makes_tokens}
+use Rattle.asm_lines.proofs.PlainBytes.{plain_kind}
 use Rattle.asm_lines.proofs.TokenPieces.{piece_token, plain_token}
 use Rattle.asm_lines.proofs.FirstPieces.{OneDivision, by_grammar, piece_within, same_front}
 

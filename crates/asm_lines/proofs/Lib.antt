@@ -6,8 +6,7 @@ mod Order
 mod Steps
 mod RunLaws
 mod Runs
-mod ClassTable
-mod Lexing
+mod PlainBytes
 mod TokenPieces
 mod Fronts
 mod FirstPieces

@@ -11,7 +11,7 @@ use Rattle.asm_lines.specs.Intervals.{before_others, own_bytes, without_space_af
 use Rattle.asm_lines.specs.Scan.{pieces_at, first_interval, later_pieces}
 use Rattle.asm_lines.proofs.Pieces.{one_off, none_off}
 use Rattle.asm_lines.proofs.Fronts.{some_length, some_token_length, left_behind_first}
-use Rattle.asm_lines.specs.Lexemes.{is_unclosed, makes_tokens}
+use Rattle.asm_lexemes.specs.Lexemes.{is_unclosed, makes_tokens}
 use Rattle.asm_lines.specs.StatementTokens.{first_tokens_from, all_close, own_behind}
 use Rattle.asm_lines.proofs.TokenPieces.{TokenPieces, MakesTokens, end_behind}
 

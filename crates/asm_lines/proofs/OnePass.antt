@@ -12,7 +12,7 @@ use Rattle.asm_lines.specs.LineNumbers.{end_of_pieces, end_of_piece, bytes_betwe
 use Rattle.asm_lines.specs.Scan.{pieces_at, first_interval}
 use Rattle.asm_lines.proofs.Pieces.{one_off}
 use Rattle.asm_lines.proofs.Order.{in_first}
-use Rattle.asm_lines.specs.Lexemes.{is_unclosed, makes_tokens}
+use Rattle.asm_lexemes.specs.Lexemes.{is_unclosed, makes_tokens}
 use Rattle.asm_lines.specs.StatementTokens.{first_tokens_from, all_close}
 use Rattle.asm_lines.proofs.TokenPieces.{pieces_of_token, end_behind}
 use Rattle.asm_lines.proofs.Fronts.{some_length, some_token_length, left_behind_first, tokens_left}

@@ -3,11 +3,11 @@ use Rattle.std.proofs.Common.{◌≡◌, ℕ, ◌+◌, ◌<◌, ◌≤◌, true,
 use Rattle.std.proofs.lemmas.List.{drop_more}
 use Rattle.asm_base.specs.Pieces.{ends_statement}
 use Rattle.asm_base.specs.declared.pieces.PieceKind.TheVariants as piece
-use Rattle.asm_lines.specs.declared.lexemes.Lexeme.{Lexeme}
-use Rattle.asm_lines.specs.declared.lexemes.Lexeme.TheVariants.{LineEnd, StatementEnd, LineComment, BlockComment, Unclosed}
+use Rattle.asm_lexemes.specs.declared.lexemes.Lexeme.{Lexeme}
+use Rattle.asm_lexemes.specs.declared.lexemes.Lexeme.TheVariants.{LineEnd, StatementEnd, LineComment, BlockComment, Unclosed}
 use Rattle.asm_lines.specs.Intervals.{without_space_after}
 use Rattle.asm_lines.specs.Scan.{pieces_at, first_interval}
-use Rattle.asm_lines.specs.Lexemes.{FitsIn, StandsAt}
+use Rattle.asm_lexemes.specs.Lexemes.{FitsIn, StandsAt}
 use Rattle.asm_lines.specs.StatementTokens.{all_close, own_behind}
 use Rattle.asm_lines.proofs.Moves.{Moves, never_closes, over_comment, stops_at}
 use Rattle.asm_lines.proofs.TokenSteps.{feed_one, one_length, semicolon_one}

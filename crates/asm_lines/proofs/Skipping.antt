@@ -20,7 +20,7 @@ use Rattle.asm_lines.proofs.Pieces.{one_off, none_off}
 use Rattle.asm_lines.proofs.Steps.{statements_more, open_more, long_more, open_step, long_step}
 use Rattle.asm_lines.specs.declared.cursors.Point.{Point}
 use Rattle.asm_lines.specs.StatementTokens.{IsReadWhole, all_close, own_length_at}
-use Rattle.asm_lines.specs.Lexemes.{is_unclosed}
+use Rattle.asm_lexemes.specs.Lexemes.{is_unclosed}
 use Rattle.asm_lines.specs.NextStatements.{TokenStatement, in_tokens, statements_left, found_left, IsNext, IsEnd}
 use Rattle.asm_lines.specs.Skips.{BeginsToken, IsSkipped, Reaches}
 use Rattle.asm_lines.proofs.TokenPieces.{end_behind}

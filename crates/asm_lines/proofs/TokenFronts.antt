@@ -12,10 +12,9 @@ use Rattle.asm_base.specs.declared.pieces.PieceKind.{PieceKind}
 use Rattle.asm_base.specs.declared.pieces.PieceKind.TheVariants as piece
 use Rattle.asm_base.specs.declared.tokens.TokenKind.{TokenKind}
 use Rattle.asm_base.specs.declared.tokens.TokenKind.TheVariants.{Name, Digits, Character, String, Operator, Other}
-use Rattle.asm_lines.specs.Classes.{begins_long_operator}
+use Rattle.asm_lexemes.specs.Classes.{begins_long_operator}
 use Rattle.asm_lines.specs.TokenGrammar.{IsMarkByte, IsNameTail, IsToken}
-use Rattle.asm_lines.proofs.ClassTable.{holds_from, of_byte}
-use Rattle.asm_lines.proofs.Lexing.{plain_kind, short_long}
+use Rattle.asm_lines.proofs.PlainBytes.{holds_from, of_byte, plain_kind, short_long}
 use Rattle.asm_lines.proofs.TokenPieces.{name_is_plain}
 use Rattle.asm_lines.proofs.FirstPieces.{OneDivision, by_grammar, same_front}
 

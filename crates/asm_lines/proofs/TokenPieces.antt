@@ -17,10 +17,10 @@ use Rattle.asm_lines.specs.Intervals.{own_bytes}
 use Rattle.asm_lines.specs.LineNumbers.{end_of_pieces}
 use Rattle.asm_lines.specs.Scan.{pieces_at}
 use Rattle.asm_lines.proofs.Pieces.{one_off}
-use Rattle.asm_lines.specs.Classes.{begins_long_operator}
-use Rattle.asm_lines.specs.Lexemes.{makes_tokens}
+use Rattle.asm_lexemes.specs.Classes.{begins_long_operator}
+use Rattle.asm_lexemes.specs.Lexemes.{makes_tokens}
 use Rattle.asm_lines.specs.StatementTokens.{own_behind}
-use Rattle.asm_lines.proofs.Lexing.{plain_kind, short_long}
+use Rattle.asm_lines.proofs.PlainBytes.{plain_kind, short_long}
 
 -- a byte that is not plain is one of nine
 either_of : (R : Type 0) (a b : Bool) → (a || b) ≡ true → (a ≡ true → R) → (b ≡ true → R) → R

@@ -8,7 +8,7 @@ use Rattle.asm_base.specs.declared.pieces.PieceKind.TheVariants as piece
 use Rattle.asm_base.specs.declared.tokens.Token.{Token}
 use Rattle.asm_lines.specs.Intervals.{own_length}
 use Rattle.asm_base.specs.Tokens.{SpelledToken, spelled, token_kind, token_length}
-use Rattle.asm_lines.specs.Lexemes.{makes_tokens}
+use Rattle.asm_lexemes.specs.Lexemes.{makes_tokens}
 use Rattle.asm_lines.specs.StatementTokens.{first_tokens_from, own_behind}
 use Rattle.asm_lines.proofs.LineFeeds.{is_on_line}
 use Rattle.asm_lines.proofs.Moves.{tokens_over_space, tokens_over_token}

@@ -6,8 +6,6 @@ pub mod Statements
 pub mod Seen
 pub mod Scan
 pub mod Laws
-pub mod Classes
-pub mod Lexemes
 pub mod StatementTokens
 pub mod NextStatements
 pub mod Skips

@@ -6,7 +6,7 @@ use Rattle.asm_lines.specs.declared.cursors.Point.{Point}
 use Rattle.asm_lines.specs.declared.cursors.NextPassed.{NextPassed}
 use Rattle.asm_lines.specs.declared.cursors.NextPassed.TheVariants.{Statement, End, Faulty}
 use Rattle.asm_lines.specs.LineNumbers.{line_of}
-use Rattle.asm_lines.specs.Lexemes.{makes_tokens}
+use Rattle.asm_lexemes.specs.Lexemes.{makes_tokens}
 use Rattle.asm_lines.specs.NextStatements.{statements_left, found_left}
 
 -- the first byte of a token stands at this offset

@@ -10,7 +10,7 @@ use Rattle.asm_lines.specs.Scan.{pieces_at, first_interval, later_pieces}
 use Rattle.asm_lines.specs.declared.passing.Passed.{Passed}
 use Rattle.asm_lines.specs.declared.statement_tokens.ReadStatement.{ReadStatement}
 use Rattle.asm_lines.specs.declared.statement_tokens.ReadStatement.TheVariants.{Whole, Full, Unclosed}
-use Rattle.asm_lines.specs.Lexemes.{is_unclosed}
+use Rattle.asm_lexemes.specs.Lexemes.{is_unclosed}
 
 -- the tokens up to the end of the statement, of the bytes from this offset on, the first few of which are left out
 unfoldable pub first_tokens_from : ℕ → ℕ → List ℕ → List SpelledToken

@@ -8,13 +8,12 @@ ghost use Rattle.asm_lines.specs.Skips.{PassesNext, Skips};
 ghost use Rattle.asm_lines.specs.StatementTokens.{all_close, own_length_at};
 ghost use Rattle.asm_lines.specs.NextStatements.{StandsNext};
 
-use crate::classes::is_plain;
 use crate::intervals::LONGEST_STATEMENT;
-use crate::lexemes::{Lexeme, lexeme_at};
 use crate::line_numbers::{line_after, line_behind};
 use crate::passing::{own_length, pass_statement};
 use crate::statement_tokens::{ReadStatement, read_tokens};
 use asm_base::{Token, TokenKind, one_division};
+use asm_lexemes::{Lexeme, is_plain, lexeme_at};
 use std::alloc::AllocError;
 
 /// The slots of a list that has none.

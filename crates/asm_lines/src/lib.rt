@@ -2,12 +2,10 @@
 //! chapter 3): a list of all of them, or one at a time as its tokens, which are placed at once.
 #![tactic(auto)]
 
-mod classes;
 mod cursors;
 mod faults;
 mod intervals;
 mod laws;
-mod lexemes;
 mod line_checks;
 mod line_numbers;
 mod passing;
@@ -16,7 +14,6 @@ mod reading;
 mod statement_tokens;
 mod statements;
 
-pub use classes::every_byte_has_its_class;
 pub use cursors::{NextStatement, next_statement};
 pub use faults::{LineCause, LineFault};
 pub use laws::{

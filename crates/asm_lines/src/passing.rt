@@ -5,9 +5,9 @@ ghost use Rattle.asm_lines.specs.LineNumbers.{line_of};
 ghost use Rattle.asm_lines.specs.Scan.{pieces_at, first_interval};
 ghost use Rattle.asm_lines.specs.StatementTokens.{PassesStatement, all_close, own_length_at};
 
-use crate::lexemes::{Lexeme, lexeme_at};
 use crate::line_numbers::{line_after, line_behind};
 use asm_base::one_division;
+use asm_lexemes::{Lexeme, lexeme_at};
 
 /// A statement that was passed: the offset behind its end, the line there, and how many bytes it has, comments not counted.
 #[derive(Clone, Copy, Debug)]

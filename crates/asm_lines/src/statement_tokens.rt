@@ -4,9 +4,9 @@ ghost use Rattle.std.specs.Prelude.{◌≡◌, ◌<◌, length};
 ghost use Rattle.asm_lines.specs.LineNumbers.{line_of};
 ghost use Rattle.asm_lines.specs.StatementTokens.{ReadsTokens};
 
-use crate::lexemes::{Lexeme, lexeme_at};
 use crate::line_numbers::{line_after, line_behind};
 use asm_base::{Token, one_division};
+use asm_lexemes::{Lexeme, lexeme_at};
 
 /// A statement whose tokens are read.
 #[derive(Clone, Copy, Debug)]

@@ -7,8 +7,8 @@ use Rattle.asm_base.specs.Pieces.{is_space, ends_statement}
 use Rattle.asm_base.specs.declared.pieces.PieceKind.TheVariants as piece
 use Rattle.asm_lines.specs.LineNumbers.{last_line}
 use Rattle.asm_lines.proofs.Pieces.{one_off, line_more}
-use Rattle.asm_lines.specs.Lexemes.{is_unclosed, makes_tokens}
-use Rattle.asm_lines.proofs.Lexing.{plain_kind}
+use Rattle.asm_lexemes.specs.Lexemes.{is_unclosed, makes_tokens}
+use Rattle.asm_lines.proofs.PlainBytes.{plain_kind}
 use Rattle.asm_lines.proofs.LineFeeds.{is_on_line, line_over_feed, line_over_piece}
 use Rattle.asm_lines.proofs.TokenSteps.{blank_one, feed_one, one_length, semicolon_one}
 use Rattle.asm_lines.proofs.Skipping.{skip_over, skip_unclosed}

@@ -2,10 +2,10 @@
 use Rattle.std.proofs.Common.{◌≡◌, ℕ, zero, suc, ◌+◌, ◌<◌, Bool, true, false, not, ◌&&◌, ◌==◌, length, get_or, refl, ap, ◌∙◌, arith}
 use Rattle.std.specs.Char.{is_ascii_digit}
 use Rattle.asm_base.specs.ByteClasses.{is_blank, is_name_start, is_name_byte, is_operator_byte}
-use Rattle.asm_lines.specs.declared.classes.ByteClass.{ByteClass}
-use Rattle.asm_lines.specs.declared.classes.ByteClass.TheVariants.{LineFeed, Semicolon, Blank, Hash, Slash, NameStart, Digit, Dollar, LongOperator, Operator, Other}
+use Rattle.asm_lexemes.specs.declared.classes.ByteClass.{ByteClass}
+use Rattle.asm_lexemes.specs.declared.classes.ByteClass.TheVariants.{LineFeed, Semicolon, Blank, Hash, Slash, NameStart, Digit, Dollar, LongOperator, Operator, Other}
 use Rattle.asm_base.specs.Dividing.{is_plain}
-use Rattle.asm_lines.specs.Classes.{is_long_class, begins_token, continues_name, begins_long_operator, plain_class_of, class_of, classes_from, the_classes}
+use Rattle.asm_lexemes.specs.Classes.{is_long_class, begins_token, continues_name, begins_long_operator, plain_class_of, class_of, classes_from, the_classes}
 
 pub table_is : the_classes ≡ classes_from 256 0
 unfolding the_classes classes_from class_of plain_class_of begins_long_operator is_blank is_name_start is_operator_byte

@@ -6,15 +6,15 @@ ghost use Rattle.std.specs.Char.{is_ascii_digit};
 ghost use Rattle.asm_base.specs.ByteClasses.{is_name_start, is_name_byte, is_operator_byte, begins_with};
 ghost use Rattle.asm_base.specs.Dividing.{line_length};
 ghost use Rattle.asm_base.specs.Tokens.{is_long_operator};
-ghost use Rattle.asm_lines.specs.Classes.{begins_long_operator};
-ghost use Rattle.asm_lines.specs.Lexemes.{StandsInFront, StandsAt, FitsIn};
+ghost use Rattle.asm_lexemes.specs.Classes.{begins_long_operator};
+ghost use Rattle.asm_lexemes.specs.Lexemes.{StandsInFront, StandsAt, FitsIn};
 
 use crate::classes::{ByteClass, begins_long_operator, class_of, is_name_byte};
 use asm_base::{PieceKind, TokenKind, first_piece};
 
 /// What stands in front, with its length where that is not 1.
 #[derive(Clone, Copy, Debug)]
-pub(crate) enum Lexeme {
+pub enum Lexeme {
     /// A line feed.
     LineEnd,
     /// A `;`.
@@ -162,7 +162,7 @@ fn slash_lexeme(rest: &[u8]) -> Lexeme
 
 /// What stands at an offset. The bytes behind the first one are only looked at where they count.
 #[inline(always)]
-pub(crate) fn lexeme_at(source: &[u8], at: usize) -> Lexeme
+pub fn lexeme_at(source: &[u8], at: usize) -> Lexeme
     requires within { at < length source.now }
     ensures stands { StandsAt source.now at result }
     ensures fits { FitsIn (length source.now - at) result }

@@ -1,7 +1,7 @@
 -- An operator of two bytes has a byte behind its first one.
 use Rattle.std.proofs.Common.{◌≡◌, ◌≤◌, ℕ, true, List, [], ◌∷◌, length, sym, ◌∙◌, arith}
 use Rattle.asm_base.specs.Tokens.{is_long_operator}
-use Rattle.asm_lines.proofs.lexemes.operator_length.Goals as goal
+use Rattle.asm_lexemes.proofs.lexemes.operator_length.Goals as goal
 
 byte_behind : (first : ℕ) (rest : List ℕ) → is_long_operator first rest ≡ true → 1 ≤ length rest
 unfolding is_long_operator

@@ -1,10 +1,10 @@
 -- A token that is one piece.
 use Rattle.std.proofs.Common.{sym, subst}
 use Rattle.asm_base.specs.declared.tokens.TokenKind.{TokenKind}
-use Rattle.asm_lines.specs.declared.lexemes.Lexeme.TheVariants.{Token}
-use Rattle.asm_lines.specs.Lexemes.{StandsInFront}
-use Rattle.asm_lines.proofs.Lexing.{character_stands, string_stands, mark_stands}
-use Rattle.asm_lines.proofs.lexemes.by_piece.Goals as goal
+use Rattle.asm_lexemes.specs.declared.lexemes.Lexeme.TheVariants.{Token}
+use Rattle.asm_lexemes.specs.Lexemes.{StandsInFront}
+use Rattle.asm_lexemes.proofs.Lexing.{character_stands, string_stands, mark_stands}
+use Rattle.asm_lexemes.proofs.lexemes.by_piece.Goals as goal
 
 pub returns-in-Character-clause-stands : goal.returns-in-Character-clause-stands
 returns-in-Character-clause-stands c = character_stands _ _ _ _ c.first_piece-piece.ensures.kind c.first_piece-piece.ensures.length c.in-Character.is c.requires.start c.requires.digit

@@ -3,7 +3,7 @@
 ghost use Rattle.std.specs.Prelude.{◌≡◌};
 ghost use Rattle.asm_base.specs.Dividing.{is_plain};
 ghost use Rattle.asm_base.specs.ByteClasses.{is_name_byte};
-ghost use Rattle.asm_lines.specs.Classes.{begins_long_operator, begins_token, continues_name, class_of, the_classes, classes_from, is_long_class};
+ghost use Rattle.asm_lexemes.specs.Classes.{begins_long_operator, begins_token, continues_name, class_of, the_classes, classes_from, is_long_class};
 
 /// What a byte may begin.
 #[derive(Clone, Copy, PartialEq, Eq, Debug)]
@@ -119,7 +119,7 @@ fn classes() -> &'static [ByteClass; 256]
 
 /// The class of a byte.
 #[tactic(auto, using(crate::proofs::ClassTable::class_found))]
-pub(crate) fn class_of(byte: u8) -> ByteClass
+pub fn class_of(byte: u8) -> ByteClass
     ensures { result ≡ class_of byte }
 {
     classes()[byte as usize]
@@ -160,21 +160,21 @@ impl ByteClass {
 }
 
 /// Whether an operator of two bytes may begin with the byte.
-pub(crate) fn begins_long_operator(byte: u8) -> bool
+pub fn begins_long_operator(byte: u8) -> bool
     ensures { result ≡ begins_long_operator byte }
 {
     class_of(byte).begins_long_operator()
 }
 
 /// Whether the byte continues a name.
-pub(crate) fn is_name_byte(byte: u8) -> bool
+pub fn is_name_byte(byte: u8) -> bool
     ensures { result ≡ is_name_byte byte }
 {
     class_of(byte).continues_name()
 }
 
 /// Whether the byte is the first of a token, whatever follows it.
-pub(crate) fn is_plain(byte: u8) -> bool
+pub fn is_plain(byte: u8) -> bool
     ensures { result ≡ is_plain byte }
 {
     class_of(byte).begins_token()

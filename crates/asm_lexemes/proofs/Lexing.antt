@@ -9,13 +9,13 @@ use Rattle.asm_base.specs.declared.pieces.PieceKind.TheVariants as piece
 use Rattle.asm_base.specs.declared.tokens.TokenKind.{TokenKind}
 use Rattle.asm_base.specs.declared.tokens.TokenKind.TheVariants.{Name, Digits, Character, String, Operator, Other}
 use Rattle.asm_base.specs.Tokens.{is_long_operator, kind_by_piece, token_kind_by, token_kind, token_length}
-use Rattle.asm_lines.specs.declared.classes.ByteClass.{ByteClass}
-use Rattle.asm_lines.specs.declared.classes.ByteClass.TheVariants as class
-use Rattle.asm_lines.specs.declared.lexemes.Lexeme.{Lexeme}
-use Rattle.asm_lines.specs.declared.lexemes.Lexeme.TheVariants.{LineComment, Token}
-use Rattle.asm_lines.specs.Classes.{class_of, begins_long_operator}
-use Rattle.asm_lines.specs.Lexemes.{StandsInFront, makes_tokens}
-use Rattle.asm_lines.proofs.ClassTable.{both, said, said_by}
+use Rattle.asm_lexemes.specs.declared.classes.ByteClass.{ByteClass}
+use Rattle.asm_lexemes.specs.declared.classes.ByteClass.TheVariants as class
+use Rattle.asm_lexemes.specs.declared.lexemes.Lexeme.{Lexeme}
+use Rattle.asm_lexemes.specs.declared.lexemes.Lexeme.TheVariants.{LineComment, Token}
+use Rattle.asm_lexemes.specs.Classes.{class_of, begins_long_operator}
+use Rattle.asm_lexemes.specs.Lexemes.{StandsInFront, makes_tokens}
+use Rattle.asm_lexemes.proofs.ClassTable.{both, said, said_by}
 
 not-true : (b : Bool) → not b ≡ true → b ≡ false
 not-true true e = cc

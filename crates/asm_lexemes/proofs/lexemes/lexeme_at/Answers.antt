@@ -5,10 +5,10 @@ use Rattle.std.proofs.lemmas.List.{take_rest}
 use Rattle.asm_base.specs.ByteClasses.{is_name_byte}
 use Rattle.asm_base.specs.Dividing.{line_length}
 use Rattle.asm_base.specs.Tokens.{is_long_operator}
-use Rattle.asm_lines.specs.declared.classes.ByteClass.TheVariants as class
-use Rattle.asm_lines.specs.Lexemes.{StandsInFront}
-use Rattle.asm_lines.proofs.Lexing.{said_of, feed_stands, semicolon_stands, blank_stands, name_stands, digits_stand, strange_stands, long_stands, one_byte_operator, no_names, hash_stands, slash_by_class}
-use Rattle.asm_lines.proofs.lexemes.lexeme_at.Goals as goal
+use Rattle.asm_lexemes.specs.declared.classes.ByteClass.TheVariants as class
+use Rattle.asm_lexemes.specs.Lexemes.{StandsInFront}
+use Rattle.asm_lexemes.proofs.Lexing.{said_of, feed_stands, semicolon_stands, blank_stands, name_stands, digits_stand, strange_stands, long_stands, one_byte_operator, no_names, hash_stands, slash_by_class}
+use Rattle.asm_lexemes.proofs.lexemes.lexeme_at.Goals as goal
 
 pub by_piece-requires-clause-start : goal.by_piece-requires-clause-start
 by_piece-requires-clause-start c = (no_names _ (slice_index_or c.args.source.now c.args.at 0) (omega arith) c.class_of.ensures c.in-CarriageReturn.is).0

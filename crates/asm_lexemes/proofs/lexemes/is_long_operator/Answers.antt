@@ -1,7 +1,7 @@
 -- Where no operator of two bytes begins with the second byte, none ends with it.
 use Rattle.std.proofs.Common.{sym, ◌∙◌, arith}
-use Rattle.asm_lines.proofs.Lexing.{none_behind}
-use Rattle.asm_lines.proofs.lexemes.is_long_operator.Goals as goal
+use Rattle.asm_lexemes.proofs.Lexing.{none_behind}
+use Rattle.asm_lexemes.proofs.lexemes.is_long_operator.Goals as goal
 
 pub returns-else-begins_long_operator : goal.returns-else-begins_long_operator
 returns-else-begins_long_operator c =

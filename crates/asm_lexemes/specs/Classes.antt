@@ -2,9 +2,9 @@
 use Rattle.std.specs.Prelude.{ℕ, zero, suc, Bool, true, false, ◌||◌, ◌==◌, List, [], ◌∷◌, if◌then◌else◌}
 use Rattle.std.specs.Char.{is_ascii_digit}
 use Rattle.asm_base.specs.ByteClasses.{is_feed, is_blank, is_name_start, is_operator_byte}
-use Rattle.asm_lines.specs.declared.classes.ByteClass.{ByteClass}
-use Rattle.asm_lines.specs.declared.classes.ByteClass.TheVariants.{LineFeed, Semicolon, Blank, CarriageReturn, Hash, Slash, Quote, DoubleQuote, NameStart, Digit, Dollar, LongOperator, Operator, Other}
-use Rattle.asm_lines.specs.declared.classes.TheConstants.{CLASSES}
+use Rattle.asm_lexemes.specs.declared.classes.ByteClass.{ByteClass}
+use Rattle.asm_lexemes.specs.declared.classes.ByteClass.TheVariants.{LineFeed, Semicolon, Blank, CarriageReturn, Hash, Slash, Quote, DoubleQuote, NameStart, Digit, Dollar, LongOperator, Operator, Other}
+use Rattle.asm_lexemes.specs.declared.classes.TheConstants.{CLASSES}
 
 -- an operator of two bytes may begin with the byte: one of `<`, `>`, `=`, `!`, `&` and `|`
 unfoldable pub begins_long_operator : ℕ → Bool

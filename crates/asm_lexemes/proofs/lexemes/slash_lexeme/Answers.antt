@@ -1,9 +1,9 @@
 -- A slash begins a comment or is an operator.
 use Rattle.std.proofs.Common.{sym, ◌∙◌, refl}
 use Rattle.asm_base.specs.ByteClasses.{is_name_start}
-use Rattle.asm_lines.specs.Classes.{begins_long_operator}
-use Rattle.asm_lines.proofs.Lexing.{slash_stands}
-use Rattle.asm_lines.proofs.lexemes.slash_lexeme.Goals as goal
+use Rattle.asm_lexemes.specs.Classes.{begins_long_operator}
+use Rattle.asm_lexemes.proofs.Lexing.{slash_stands}
+use Rattle.asm_lexemes.proofs.lexemes.slash_lexeme.Goals as goal
 
 pub by_piece-requires-clause-start : goal.by_piece-requires-clause-start
 unfolding is_name_start

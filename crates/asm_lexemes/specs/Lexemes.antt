@@ -4,8 +4,8 @@ use Rattle.asm_base.specs.Dividing.{piece_kind, piece_length}
 use Rattle.asm_base.specs.declared.pieces.PieceKind.{PieceKind}
 use Rattle.asm_base.specs.declared.pieces.PieceKind.TheVariants as piece
 use Rattle.asm_base.specs.Tokens.{token_kind, token_length}
-use Rattle.asm_lines.specs.declared.lexemes.Lexeme.{Lexeme}
-use Rattle.asm_lines.specs.declared.lexemes.Lexeme.TheVariants.{LineEnd, StatementEnd, Blank, LineComment, BlockComment, Token, Unclosed}
+use Rattle.asm_lexemes.specs.declared.lexemes.Lexeme.{Lexeme}
+use Rattle.asm_lexemes.specs.declared.lexemes.Lexeme.TheVariants.{LineEnd, StatementEnd, Blank, LineComment, BlockComment, Token, Unclosed}
 
 -- the piece is a string or a comment that does not close
 abbrev pub is_unclosed : PieceKind → Bool

@@ -1,0 +1,2 @@
+mod ClassTable
+mod Lexing
