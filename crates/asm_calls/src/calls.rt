@@ -7,7 +7,7 @@ use crate::layouts::write_layout;
 use crate::objects::write_object;
 use crate::symbols::{write_assigned, write_instances};
 use asm_frags::FieldSize;
-use expression_calls::{
+use layer_rows::{
     write_folded, write_form, write_messages, write_names, write_parsed, write_settled,
     write_shown, write_tokens, write_value,
 };

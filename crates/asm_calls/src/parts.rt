@@ -1,9 +1,8 @@
 //! The parts of the stored input: cases of layouts, entries of frame tables, functions, and calls.
 
 use crate::calls::write_call;
-use frame_rows::write_entry;
 use function_rows::write_function;
-use layout_rows::Case;
+use layer_rows::{Case, write_entry};
 use row_texts::write_line;
 use std::alloc::Global;
 use std::io;

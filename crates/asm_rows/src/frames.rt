@@ -3,7 +3,7 @@
 use cfi_entries::row_at;
 use cfi_rows::{CfaRow, diff};
 use elf_file::{section_bytes, section_header, section_named};
-use frame_rows::write_row;
+use layer_rows::write_row;
 use memory_outside::MemoryOutput;
 use row_texts::{write_count, write_line, write_number, write_text};
 use std::io;

@@ -276,8 +276,10 @@ fn new_table(alloc: Global, sections: &mut Sections) -> Result<u32, FragFault>
 /// Whether the section of this number takes zeros alone.
 fn takes_zeros_alone(sections: &Sections, section: u32) -> bool
     requires { section < length sections.now }
-    ensures nobits { result ≡ true → (first : FrameValue) (frames : List FrameValue) (tables : Tables)
-        → spec.placed_there section (slice_get sections.now section) first frames tables ≡ Err BadSection }
+    ensures nobits { result ≡ true
+        → (first : FrameValue) (frames : List FrameValue) (tables : Tables)
+        → spec.placed_there section (slice_get sections.now section) first frames tables
+        ≡ Err BadSection }
     ensures takes { result ≡ false → Takes section sections.now }
     ensures due { result ≡ false → (first : FrameValue) (frames : List FrameValue) (tables : Tables)
         → spec.placed_there section (slice_get sections.now section) first frames tables

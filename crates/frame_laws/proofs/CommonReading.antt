@@ -1,10 +1,10 @@
--- The common entry of a procedure reads in the file.
-use Rattle.std.proofs.Common.{◌≡◌, ℕ, ◌+◌, ◌≤◌, List, [], ◌∷◌, ◌++◌, length, Option, None, Some, refl, sym, ap, ◌∙◌, subst, arith}
-use Rattle.std.specs.Prelude.{slice_get, IsSomeAnd}
+-- The CIE of a procedure reads in the file.
+use Rattle.std.proofs.Common.{◌≡◌, ℕ, ◌+◌, List, [], ◌∷◌, ◌++◌, length, Option, None, Some, refl, ap, ◌∙◌, subst, arith}
 use Rattle.std.proofs.lemmas.List.{append-nil}
 use Rattle.asm_base.specs.declared.places.SectionPlace.{SectionPlace}
 use Rattle.asm_base.specs.declared.positions.Pos.{Pos}
 use Rattle.elf_file.specs.Places.{PieceAt}
+use Rattle.elf_object.specs.Faults.{object_fault}
 use Rattle.elf_object.specs.Image.{image_of}
 use Rattle.elf_object.specs.Places.{section_offset}
 use Rattle.cfi_directives.specs.declared.frames.Frame.{Frame}
@@ -21,16 +21,16 @@ use Rattle.table_pieces.specs.Pieces.{Piece, plain, Tables, pieces_put}
 use Rattle.eh_frame.specs.Commons.{encoding_if, form_of, pointer_field, pointer_form, with_pointer, head_piece, rest_pieces, common_pieces}
 use Rattle.piece_laws.specs.HeldDistances.{NamesStay}
 use Rattle.piece_laws.specs.LaidTables.{place_address, LaidTable, StandsTo}
-use Rattle.piece_laws.specs.PiecesInFile.{AllFit, AreInFile}
+use Rattle.piece_laws.specs.PiecesInFile.{AllFit}
 use Rattle.frame_laws.specs.TableReads.{Names, CommonReads}
 use Rattle.frame_laws.proofs.PieceFacts.{PieceFacts, at_end}
-use Rattle.frame_laws.proofs.SplitPointers.{SplitPointer, split_pointer}
+use Rattle.frame_laws.proofs.SplitPointers.{split_pointer}
 
--- what is known of common entries
+-- what is known of CIEs
 pub record CommonFacts : Type 0 where
   pub whole : (form : CommonForm) (pointer : List ℕ) → length pointer ≡ size_if form.personality → length (common_entry form pointer) ≡ 4 + common_length form
 
--- what layout makes of the rest of a common entry: the pointer, and what stands behind it
+-- what layout makes of the rest of a CIE: the pointer, and what stands behind it
 rest_bytes : (address : SectionPlace → ℕ) (here : ℕ) (frame : Frame) (mades : List Made) → AreMade address here (rest_pieces frame) mades
     → (pointer : List ℕ) × (length pointer ≡ size_if (encoding_if frame.personality)) × (pieces_bytes (rest_pieces frame) mades ≡ pointer ++ common_tail (form_of frame))
 rest_bytes address here frame mades made =
@@ -50,24 +50,24 @@ all_bytes address here frame (head ∷ mades) made =
     let rest = rest_bytes address _ frame mades made.1 in
     (rest.0, rest.1, ap (λ bytes. common_head (form_of frame) ++ bytes) rest.2)
 
-module _ (facts : PieceFacts) (t : LaidTable) where
+module _ (facts : PieceFacts) (t : LaidTable) (faultless : object_fault t.symbols t.laid ≡ None) where
   -- a pointer that stands behind an end is held there
   pub pointer_named : (pos : Pos) (end : SectionEnd) (tables : Tables) (pointer : Option Pointer) (pieces : List Piece) (offset : ℕ) → StandsTo t.held end
       → PiecesStand t.held t.number pos end tables (with_pointer pointer pieces) → at_end t end ≡ offset → Names t.symbols t.laid t.number offset pointer
   pointer_named pos end tables None pieces offset stands stand place = tt
   pointer_named pos end tables (Some pointer) pieces offset stands stand place =
       subst (λ (at : ℕ). Names t.symbols t.laid t.number at (Some pointer)) place
-      (facts.file.forms t (pointer_field pointer.encoding) pos end (pointer_form pointer) stands stand.0)
+      (facts.file.forms t (pointer_field pointer.encoding) pos end (pointer_form pointer) faultless stands stand.0)
 
-  -- all pieces of a common entry are as they are to be
+  -- all pieces of a CIE are as they are to be
   pub pointer_fits : (pointer : Option Pointer) (pieces : List Piece) → AllFit t.sections t.laid t.number pieces → AllFit t.sections t.laid t.number (with_pointer pointer pieces)
   pointer_fits None pieces fit = fit
   pointer_fits (Some pointer) pieces fit = (tt, fit)
 
-  -- the common entry of a procedure that stands behind an end reads in the file, and how far the end moves behind it
+  -- the CIE of a procedure that stands behind an end reads in the file, and how far the end moves behind it
   pub common_reads : CommonFacts → (frame : Frame) (end : SectionEnd) (tables : Tables) → StandsTo t.held end → PlacesAreLabels tables.symbols
       → NamesStay (pieces_put t.number frame.pos (common_pieces frame) tables).symbols t.symbols → PiecesStand t.held t.number frame.pos end tables (common_pieces frame)
-      → CommonReads (image_of t.symbols t.laid) t.symbols t.laid t.number (at_end t end) (form_of frame) frame.personality
+      → CommonReads (image_of t.symbols t.laid) t.symbols t.laid t.number (at_end t end) frame
       × (at_end t (behind_pieces (common_pieces frame) end) ≡ at_end t end + (4 + common_length (form_of frame)))
   common_reads commons frame end tables stands known stays stand =
       let head : List ℕ = common_head (form_of frame) in
@@ -83,7 +83,8 @@ module _ (facts : PieceFacts) (t : LaidTable) where
           pointer = bytes.0;
           sized = bytes.1;
           stands = subst (PieceAt (image_of t.symbols t.laid) (section_offset t.symbols t.laid t.number + at_end t end)) bytes.2 made.stands;
-          names_it = pointer_named frame.pos behind (pieces_put t.number frame.pos (head_piece frame ∷ []) tables) frame.personality tail (at_end t end + length head) behind_stands stand.1 place;
+          names_it = pointer_named frame.pos behind (pieces_put t.number frame.pos (head_piece frame ∷ []) tables) frame.personality tail (at_end t end + length head)
+              behind_stands stand.1 place;
         },
         omega (arith, reach, long),
       )

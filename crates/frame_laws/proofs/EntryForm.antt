@@ -1,4 +1,4 @@
--- The bytes of an entry tell its range, and lead back to the common entry.
+-- The bytes of an entry tell its range, and lead back to the CIE.
 use Rattle.std.proofs.Common.{◌≡◌, ℕ, ◌+◌, ◌-◌, ◌^◌, ◌%◌, ◌<◌, ◌≤◌, ◌&&◌, nat_lt, true, false, cond, List, [], ◌∷◌, ◌++◌, Some, None, length, drop, sym, ap, ◌∙◌, subst, arith, length-append}
 use Rattle.std.specs.Prelude.{◌==◌, nat_le, Option, IsSomeAnd}
 use Rattle.std.specs.Option.{option_and_then}

@@ -1,6 +1,7 @@
--- The entry of a procedure reads in the file.
-use Rattle.std.proofs.Common.{◌≡◌, ℕ, ◌+◌, ◌-◌, ◌^◌, ◌<◌, ◌≤◌, List, [], ◌∷◌, refl, subst, arith}
+-- The FDE of a procedure reads in the file.
+use Rattle.std.proofs.Common.{◌≡◌, ℕ, ◌+◌, ◌-◌, ◌^◌, ◌<◌, ◌≤◌, List, [], ◌∷◌, None, refl, subst, arith}
 use Rattle.std.specs.Prelude.{slice_get, IsSomeAnd}
+use Rattle.elf_object.specs.Faults.{object_fault}
 use Rattle.elf_object.specs.Image.{image_of}
 use Rattle.cfi_directives.specs.declared.frames.Frame.{Frame}
 use Rattle.cfi_directives.specs.Meant.{place_in, stands_at, stop_of}
@@ -35,7 +36,8 @@ pub record IsRising (t : LaidTable) (frame : Frame) : Type 0 where
   pub rise : Rise (place_address t.laid) frame.section frame.start frame.ops (stop_of frame)
   pub low : stands_at (place_address t.laid) frame.section (stop_of frame) < 2 ^ 32
 
-module _ (facts : PieceFacts) (t : LaidTable) (frame : Frame) (common : SectionEnd) (log : ℕ) (end : SectionEnd) (rising : IsRising t frame) where
+module _ (facts : PieceFacts) (t : LaidTable) (faultless : object_fault t.symbols t.laid ≡ None) (frame : Frame) (common : SectionEnd) (log : ℕ) (end : SectionEnd)
+    (rising : IsRising t frame) where
   abbrev pieces : List Piece
   pieces = entry_pieces t.number end (end_place t.number common) log frame
 
@@ -59,14 +61,15 @@ module _ (facts : PieceFacts) (t : LaidTable) (frame : Frame) (common : SectionE
       record { one = refl; plus = omega arith; to = tt; from = holds common common_stands } in
       let size : IsNear t.sections t.laid t.number (record { to = At (end_place t.number last); from = Here; plus = 2 ^ 64 - 4 }) =
       record { one = refl; plus = omega arith; to = holds last last_stands; from = tt } in
-      (size, (back, (tt, (range, (tt, pointer_fits facts t frame.lsda (op_pieces frame.section log frame.start frame.ops) ops)))))
+      (size, (back, (tt, (range, (tt, pointer_fits facts t faultless frame.lsda (op_pieces frame.section log frame.start frame.ops) ops)))))
 
-  -- the entry of a procedure reads in the file as its directives mean
-  pub entry_reads : EntriesRead → CommonReads (image_of t.symbols t.laid) t.symbols t.laid t.number (at_end t common) (form_of frame) frame.personality → (tables : Tables) → StandsTo t.held common → StandsTo t.held end → at_end t common ≤ at_end t end → PlacesAreLabels tables.symbols
+  -- the FDE of a procedure reads in the file as its directives mean
+  pub entry_reads : EntriesRead → CommonReads (image_of t.symbols t.laid) t.symbols t.laid t.number (at_end t common) frame → (tables : Tables)
+      → StandsTo t.held common → StandsTo t.held end → at_end t common ≤ at_end t end → PlacesAreLabels tables.symbols
       → NamesStay (pieces_put t.number frame.pos pieces tables).symbols t.symbols → PiecesStand t.held t.number frame.pos end tables pieces
       → (made : AreInFile t.symbols t.laid t.number pieces end)
       × (read : EntryReads (image_of t.symbols t.laid) t.symbols t.laid t.number (at_end t end) frame)
-      × (read.entry ≡ pieces_bytes pieces made.mades)
+      × (read.entry ≡ pieces_bytes pieces made.mades) × (read.common ≡ at_end t common)
   entry_reads read cie tables common_stands stands behind known stays stand =
       let last_stands = facts.file.ends.pieces t tables frame.pos end pieces stands stand in
       let made = facts.file.pieces t tables frame.pos end (length_piece (end_place t.number last)) (counted_pieces (end_place t.number common) log frame) stands known stays
@@ -104,7 +107,8 @@ module _ (facts : PieceFacts) (t : LaidTable) (frame : Frame) (common : SectionE
       ∷ number (record { to = At (place_in frame.section (stop_of frame)); from = At (place_in frame.section frame.start); plus = 0 })
       ∷ plain (size_if (encoding_if frame.lsda) ∷ []) ∷ [] in
       let covered_stands = facts.file.ends.pieces t tables frame.pos end five stands (stand.0, (stand.1.0, (stand.1.1.0, (stand.1.1.1.0, (stand.1.1.1.1.0, tt))))) in
-      let lsda = pointer_named facts t frame.pos covered_end (pieces_put t.number frame.pos five tables) frame.lsda ops (at_end t end + 17) covered_stands stand.1.1.1.1.1 lsda_place in
+      let lsda = pointer_named facts t faultless frame.pos covered_end (pieces_put t.number frame.pos five tables) frame.lsda ops (at_end t end + 17)
+      covered_stands stand.1.1.1.1.1 lsda_place in
       let tells = entry_tells address (end_place t.number last) (end_place t.number common) at_start (place_in frame.section (stop_of frame)) (form_of frame) frame.lsda refl
       (op_pieces frame.section log frame.start frame.ops) (at_end t end) made.mades made.are_made behind reach (omega (arith, low)) rises rising.low in
       let three : Tables = piece_put t.number frame.pos (pointer at_start) two in
@@ -126,5 +130,6 @@ module _ (facts : PieceFacts) (t : LaidTable) (frame : Frame) (common : SectionE
           lsda = lsda;
           rows = λ at. read address (at_end t end) (end_place t.number common) (end_place t.number last) log frame made.mades cie.pointer at entry cie.sized;
         },
+        refl,
         refl,
       )

@@ -51,7 +51,7 @@ pointer_few (Some pointer) pieces few =
     let both : 0 + labels_of pieces ≤ 2 * (width (pointer_field pointer.encoding) + bytes_of pieces) = omega (arith, few) in
     both
 
--- and so does a common entry
+-- and so does a CIE
 common_few : (frame : Frame) → labels_of (common_pieces frame) ≤ 2 * bytes_of (common_pieces frame)
 common_few frame =
     let tail : List Piece = plain (common_tail (form_of frame)) ∷ [] in
@@ -60,7 +60,7 @@ common_few frame =
     let both : 0 + labels_of rest ≤ 2 * (length (common_head (form_of frame)) + bytes_of rest) = omega (arith, few) in
     both
 
--- the entry of a procedure brings few labels
+-- the FDE of a procedure brings few labels
 entry_few : (section : ℕ) (end : SectionEnd) (common : SectionPlace) (log : ℕ) (frame : Frame) → All (λ placed. IsSome (written placed.op)) frame.ops
     → labels_of (entry_pieces section end common log frame) ≤ 2 * bytes_of (entry_pieces section end common log frame)
 entry_few section end common log frame all =
@@ -87,7 +87,7 @@ weaker P Q to None is = absurd is
 weaker P Q to (Some held) is = to held is
 
 module _ (counted : PiecesAreCounted) (reach : PiecesReach) where
-  -- a common entry that is put, or not, brings few labels
+  -- a CIE that is put, or not, brings few labels
   ready_few : (section : ℕ) (frame : Frame) (found : Option SectionPlace) (putting : Putting)
       → (let next = common_put section frame found putting in
       length next.tables.symbols.symbols + 2 * putting.end.bytes ≤ length putting.tables.symbols.symbols + 2 * next.end.bytes)

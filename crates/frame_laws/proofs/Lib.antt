@@ -7,8 +7,8 @@ mod PieceFacts
 mod SplitPointers
 mod EntryForm
 mod Rises
-mod SharedCommons
 mod CommonReading
 mod EntryReading
 mod PlacedFrames
+mod EntriesInOrder
 mod Tables

@@ -1,252 +1,45 @@
 -- A frame table reads in the file.
-use Rattle.std.proofs.Common.{◌≡◌, ℕ, zero, suc, ◌+◌, ◌==◌, ◌*◌, ◌^◌, ◌≤◌, inl, inr, Bool, true, false, List, [], ◌∷◌, ◌++◌, All, Option, Some, None, Ok, length, refl, sym, ap, ◌∙◌, subst, arith, length-append}
+use Rattle.std.proofs.Common.{◌≡◌, ℕ, ◌+◌, ◌==◌, ◌*◌, ◌^◌, ◌≤◌, inl, inr, Bool, true, false, List, [], ◌∷◌, ◌++◌, All, Option, Some, None, Ok, length, refl, sym, ap, ◌∙◌, subst, arith, length-append}
 use Rattle.std.specs.Prelude.{◌&&◌, codes, is_none, if◌then◌else◌, slice_get, IsSomeAnd, IsSome}
-use Rattle.std.specs.List.{find}
 use Rattle.std.specs.Option.{option_map, option_map_or, unwrap_or}
 use Rattle.std.specs.Str.{bytes_eq}
-use Rattle.std.proofs.lemmas.List.Elements.{All-nil, All-cons, All-head, All-tail, All-push, All-weaker}
+use Rattle.std.proofs.lemmas.List.Elements.{All-nil, All-cons, All-weaker}
 use Rattle.std.proofs.lemmas.List.Quantifiers.{position-Some}
-use Rattle.std.proofs.lemmas.Option.{none-some, same_Some, get_or_from_slice_get}
+use Rattle.std.proofs.lemmas.Option.{same_Some, get_or_from_slice_get}
 use Rattle.asm_base.specs.declared.places.SectionPlace.{SectionPlace}
-use Rattle.asm_base.specs.declared.positions.Pos.{Pos}
 use Rattle.asm_symbols.specs.SymbolMap.{SymbolMap}
 use Rattle.asm_frags.specs.declared.groups.Group.{Group}
 use Rattle.asm_frags.specs.Fields.{own_place}
-use Rattle.asm_frags.specs.SectionOf.{SectionOf, is_section_named}
+use Rattle.asm_frags.specs.SectionOf.{is_section_named}
 use Rattle.asm_frags.specs.Writing.{LooseSection, takes_zeros_alone}
-use Rattle.asm_relax.specs.KeptSections.{kept_section, LayoutsKeepSections}
-use Rattle.asm_relax.specs.Settling.{LaidItem, LaidSections, layout_of}
+use Rattle.asm_relax.specs.KeptSections.{kept_section}
+use Rattle.asm_relax.specs.Settling.{LaidSections, layout_of}
+use Rattle.elf_object.specs.Faults.{object_fault}
 use Rattle.elf_object.specs.Image.{image_of}
-use Rattle.elf_object.specs.Places.{moved}
 use Rattle.cfi_directives.specs.declared.frames.Frame.{Frame}
 use Rattle.cfi_directives.specs.declared.frames.PlacedOp.{PlacedOp}
-use Rattle.cfi_directives.specs.declared.frames.Pointer.{Pointer}
-use Rattle.cfi_rows.specs.declared.commons.CommonForm.{CommonForm}
 use Rattle.cfi_rows.specs.Commons.{common_head, common_length}
 use Rattle.cfi_entries.specs.Written.{written}
-use Rattle.section_laws.specs.Within.{IsWithin}
 use Rattle.table_pieces.specs.declared.ends.SectionEnd.{SectionEnd}
 use Rattle.table_pieces.specs.Ends.{behind_pieces, end_place, run_end, no_end, end_of}
 use Rattle.table_pieces.specs.Labels.{NamesPlace, PlacesAreLabels}
-use Rattle.table_pieces.specs.Pieces.{Piece, plain, Tables, piece_put, pieces_put, Takes}
-use Rattle.table_pieces.specs.Ready.{AreReady, SectionsKeepPlaces}
-use Rattle.table_pieces.specs.Found.{PiecesStand}
-use Rattle.table_pieces.specs.Standing.{Extends, OneExtends, HasEnd, Reaches}
-use Rattle.eh_frame.specs.Entries.{entry_pieces}
-use Rattle.eh_frame.specs.Commons.{form_of, share_common, head_piece, rest_pieces, common_pieces}
-use Rattle.eh_frame.specs.FoundTables.{CommonStands, EntriesStand, TableStands, IsPlaced}
-use Rattle.eh_frame.specs.Placing.{Common, Putting, padded_log, place_of, common_put, entry_put, common_place, frame_put, entries_put, common_begun, table_put, new_table, placed}
-use Rattle.eh_frame.specs.Reading.{EntriesRead}
+use Rattle.table_pieces.specs.Pieces.{Tables, piece_put}
+use Rattle.table_pieces.specs.Ready.{AreReady}
+use Rattle.table_pieces.specs.Standing.{Extends, OneExtends, Reaches}
+use Rattle.eh_frame.specs.Commons.{form_of, head_piece, rest_pieces, common_pieces}
+use Rattle.eh_frame.specs.FoundTables.{TableStands, IsPlaced}
+use Rattle.eh_frame.specs.Placing.{Common, Putting, padded_log, place_of, common_put, common_begun, new_table}
 use Rattle.piece_laws.specs.HeldDistances.{NamesStay}
-use Rattle.piece_laws.specs.LaidTables.{IsSmall, IsLow, LaidTable, StandsTo}
-use Rattle.frame_laws.specs.LabelCounts.{AreWritten, BringsFew, LabelsAreFew}
+use Rattle.piece_laws.specs.LaidTables.{IsSmall, IsLow, place_address, LaidTable, StandsTo}
+use Rattle.frame_laws.specs.LabelCounts.{AreWritten, BringsFew}
 use Rattle.frame_laws.specs.PlacedTables.{IsCovered, GoesOn}
-use Rattle.frame_laws.specs.TableReads.{CommonReads, EntryReads, StandBefore, FrameReads, EntriesFill, IsTableSection, TableReads, FrameTablesRead}
+use Rattle.frame_laws.specs.TableReads.{CommonReads, bytes_before, EntriesFill, IsTableSection, TableReads, FrameTablesRead}
 use Rattle.frame_laws.proofs.Lists.{all_there}
-use Rattle.frame_laws.proofs.PieceFacts.{LabelFacts, PieceFacts, at_end}
-use Rattle.frame_laws.proofs.SharedCommons.{forms_same, personality_same}
-use Rattle.frame_laws.proofs.CommonReading.{CommonFacts, common_reads}
-use Rattle.frame_laws.proofs.EntryReading.{IsRising, entry_reads}
+use Rattle.frame_laws.proofs.PieceFacts.{at_end}
+use Rattle.frame_laws.proofs.CommonReading.{common_reads}
+use Rattle.frame_laws.proofs.EntryReading.{IsRising}
 use Rattle.frame_laws.proofs.PlacedFrames.{covered_grows, frame_rising}
-
--- what is known of all frame tables
-pub record TableFacts : Type 0 where
-  pub pieces : PieceFacts
-  pub commons : CommonFacts
-  pub layouts : LayoutsKeepSections
-  pub keeping : SectionsKeepPlaces
-  pub read : EntriesRead
-  pub found : (frame : Frame) (frames : List Frame) (tables after : Tables) → All IsWithin tables.sections → placed (frame ∷ frames) tables ≡ Ok after
-      → IsPlaced frame frames tables after
-  pub behind : (section : ℕ) (first : Frame) (frames : List Frame) (tables : Tables) → OneExtends section tables.sections (table_put section first frames tables).sections
-  pub few : LabelsAreFew
-  pub reaches : (section : ℕ) (pos : Pos) (pieces : List Piece) (tables : Tables) (end : SectionEnd) → Reaches section tables.sections end
-      → Reaches section (pieces_put section pos pieces tables).sections (behind_pieces pieces end)
-  pub plain_reaches : (section : ℕ) (pos : Pos) (bytes : List ℕ) (tables : Tables) → Takes section tables.sections
-      → Reaches section (piece_put section pos (plain bytes) tables).sections (end_of section (piece_put section pos (plain bytes) tables).sections)
-
--- what names a place before a common entry is put, or not, does so behind it
-ready_stays : LabelFacts → (section : ℕ) (frame : Frame) (found : Option SectionPlace) (putting : Putting)
-    → NamesStay putting.tables.symbols (common_put section frame found putting).tables.symbols
-ready_stays labels section frame (Some place) putting symbol at there = there
-ready_stays labels section frame None putting symbol at there =
-    labels.stays putting.tables.symbols (common_put section frame None putting).tables.symbols symbol at (labels.pieces section frame.pos (common_pieces frame) putting.tables) there
-
--- what names a place before an entry is put does so behind it
-entry_stays : LabelFacts → (section log : ℕ) (place : SectionPlace) (frame : Frame) (putting : Putting)
-    → NamesStay putting.tables.symbols (entry_put section log place frame putting).tables.symbols
-entry_stays labels section log place frame putting symbol at there =
-    labels.stays putting.tables.symbols (entry_put section log place frame putting).tables.symbols symbol at
-    (labels.pieces section frame.pos (entry_pieces section putting.end place log frame) putting.tables) there
-
--- what names a place before entries are put does so behind them
-entries_stay : LabelFacts → (section : ℕ) (frames : List Frame) (putting : Putting) → NamesStay putting.tables.symbols (entries_put section frames putting).tables.symbols
-entries_stay labels section [] putting symbol at there = there
-entries_stay labels section (frame ∷ frames) putting symbol at there =
-    let one = common_put section frame (place_of frame putting.commons) putting in
-    let place = common_place section frame putting in
-    entries_stay labels section frames (frame_put section (padded_log frames) frame putting) symbol at
-    (entry_stays labels section (padded_log frames) place frame one symbol at (ready_stays labels section frame (place_of frame putting.commons) putting symbol at there))
-
-module _ (facts : TableFacts) (t : LaidTable) where
-  abbrev image : List ℕ
-  image = image_of t.symbols t.laid
-
-  -- a common entry reads at its place, up to this offset
-  record CommonIs (limit : ℕ) (common : Common) : Type 0 where
-    end : SectionEnd
-    place : common.place ≡ end_place t.number end
-    stands : StandsTo t.held end
-    behind : at_end t end ≤ limit
-    reads : CommonReads image t.symbols t.laid t.number (at_end t end) (form_of common.frame) common.frame.personality
-
-  further : (limit more : ℕ) → limit ≤ more → (common : Common) → CommonIs limit common → CommonIs more common
-  further limit more up common is =
-      let low = is.behind in record { end = is.end; place = is.place; stands = is.stands; behind = omega (arith, low, up); reads = is.reads }
-
-  -- the one that a procedure shares reads as its own
-  found_common : (limit : ℕ) (frame : Frame) (place : SectionPlace) (commons : List Common) → All (CommonIs limit) commons → place_of frame commons ≡ Some place
-      → CommonIs limit (record { frame = frame; place = place })
-  found_common limit frame place [] all is = absurd (none-some place is)
-  found_common limit frame place (common ∷ commons) all is =
-      by (share_common common.frame frame) refl (λ found. found_common limit frame place commons (All-tail (CommonIs limit) common commons all) found) is
-    where
-      rest : Option Common
-      rest = find (λ (common : Common). share_common common.frame frame) commons
-
-      own : CommonIs limit common
-      own = All-head (CommonIs limit) common commons all
-
-      by : (shared : Bool) → share_common common.frame frame ≡ shared
-          → (place_of frame commons ≡ Some place → CommonIs limit (record { frame = frame; place = place }))
-          → option_map (λ (common : Common). common.place) (if shared then Some common else rest) ≡ Some place → CommonIs limit (record { frame = frame; place = place })
-      by true shared later found = record {
-        end = own.end;
-        place = sym (same_Some common.place place found) ∙ own.place;
-        stands = own.stands;
-        behind = own.behind;
-        reads = subst (λ (form : CommonForm). CommonReads image t.symbols t.laid t.number (at_end t own.end) form frame.personality) (forms_same common.frame frame shared)
-            (subst (λ (personality : Option Pointer). CommonReads image t.symbols t.laid t.number (at_end t own.end) (form_of common.frame) personality)
-            (personality_same common.frame frame shared) own.reads);
-      }
-      by false shared later found = later found
-
-  -- what stands before the entry of a procedure, and the common entry that it leads back to
-  record OneReady (frame : Frame) (found : Option SectionPlace) (putting : Putting) : Type 0 where
-    count : ℕ
-    before : StandBefore image t.symbols t.laid t.number (at_end t putting.end) frame count
-    end : at_end t (common_put t.number frame found putting).end ≡ at_end t putting.end + count
-    stands : StandsTo t.held (common_put t.number frame found putting).end
-    common : SectionEnd
-    place : unwrap_or found (end_place t.number putting.end) ≡ end_place t.number common
-    common_stands : StandsTo t.held common
-    behind : at_end t common ≤ at_end t (common_put t.number frame found putting).end
-    reads : CommonReads image t.symbols t.laid t.number (at_end t common) (form_of frame) frame.personality
-    commons : All (CommonIs (at_end t (common_put t.number frame found putting).end)) (common_put t.number frame found putting).commons
-    known : PlacesAreLabels (common_put t.number frame found putting).tables.symbols
-    reaches : Reaches t.number (common_put t.number frame found putting).tables.sections (common_put t.number frame found putting).end
-
-  one_ready : (frame : Frame) (found : Option SectionPlace) (putting : Putting) → place_of frame putting.commons ≡ found → StandsTo t.held putting.end
-      → All (CommonIs (at_end t putting.end)) putting.commons → PlacesAreLabels putting.tables.symbols
-      → NamesStay (common_put t.number frame found putting).tables.symbols t.symbols → CommonStands t.held t.number frame found putting
-      → Reaches t.number putting.tables.sections putting.end → OneReady frame found putting
-  one_ready frame (Some place) putting is stands commons known stays stand reaches =
-      let shared = found_common (at_end t putting.end) frame place putting.commons commons is in
-      record {
-        count = 0;
-        before = inl refl;
-        end = omega arith;
-        stands = stands;
-        common = shared.end;
-        place = shared.place;
-        common_stands = shared.stands;
-        behind = shared.behind;
-        reads = shared.reads;
-        commons = commons;
-        known = known;
-        reaches = reaches;
-      }
-  one_ready frame None putting is stands commons known stays stand reaches =
-      let pieces = common_pieces frame in
-      let made = common_reads facts.pieces t facts.commons frame putting.end putting.tables stands known stays stand in
-      let moves = made.1 in
-      let next = common_put t.number frame None putting in
-      record {
-        count = 4 + common_length (form_of frame);
-        before = inr (refl, made.0);
-        end = made.1;
-        stands = facts.pieces.file.ends.pieces t putting.tables frame.pos putting.end pieces stands stand;
-        common = putting.end;
-        place = refl;
-        common_stands = stands;
-        behind = omega (arith, moves);
-        reads = made.0;
-        commons = All-push (CommonIs (at_end t next.end)) putting.commons (record { frame = frame; place = end_place t.number putting.end })
-            (All-weaker (CommonIs (at_end t putting.end)) (CommonIs (at_end t next.end)) (further (at_end t putting.end) (at_end t next.end) (omega (arith, moves))) putting.commons commons)
-            (record { end = putting.end; place = refl; stands = stands; behind = omega (arith, moves); reads = made.0 });
-        known = facts.pieces.labels.known putting.tables.symbols next.tables.symbols known (facts.pieces.labels.pieces t.number frame.pos pieces putting.tables);
-        reaches = facts.reaches t.number frame.pos pieces putting.tables putting.end reaches;
-      }
-
-  -- the entry of a procedure reads, and how far the end moves behind it
-  abbrev OneEntry : ℕ → Frame → Putting → SectionPlace → Type 0
-  OneEntry log frame one place = PiecesStand t.held t.number frame.pos one.end one.tables (entry_pieces t.number one.end place log frame)
-      → NamesStay (entry_put t.number log place frame one).tables.symbols t.symbols
-      → (read : EntryReads image t.symbols t.laid t.number (at_end t one.end) frame) × (at_end t (entry_put t.number log place frame one).end ≡ at_end t one.end + length read.entry)
-
-  one_entry : (frame : Frame) (log : ℕ) (one : Putting) (common : SectionEnd) → IsRising t frame
-      → CommonReads image t.symbols t.laid t.number (at_end t common) (form_of frame) frame.personality → StandsTo t.held common → StandsTo t.held one.end
-      → at_end t common ≤ at_end t one.end → PlacesAreLabels one.tables.symbols → OneEntry log frame one (end_place t.number common)
-  one_entry frame log one common rising reads common_stands stands behind known stand stays =
-      let made = entry_reads facts.pieces t frame common log one.end rising facts.read reads one.tables common_stands stands behind known stays stand in
-      (made.1, made.0.reach ∙ ap (λ (bytes : List ℕ). at_end t one.end + length bytes) (sym made.2))
-
-  -- behind the last entry the section ends
-  ends_there : (sections : List LooseSection) (end : SectionEnd) → slice_get sections t.number ≡ Some t.held → Reaches t.number sections end
-      → IsSomeAnd (slice_get t.laid t.number) (λ section. moved section.items (length section.items) (length section.bytes) ≡ at_end t end)
-  ends_there sections end are reach =
-      let has : HasEnd end t.held =
-      subst (λ (found : Option LooseSection). IsSomeAnd found (HasEnd end)) are reach in
-      let last = facts.pieces.file.ends.last t end has.items has.bytes in
-      subst (λ (found : Option (SectionOf LaidItem)). IsSomeAnd found
-      (λ section. moved section.items (length section.items) (length section.bytes) ≡ at_end t end)) (sym last.1) last.2
-
-  -- an entry before others
-  one_frame : (base : ℕ) (frame : Frame) (frames : List Frame) (count : ℕ) → StandBefore image t.symbols t.laid t.number base frame count → (offset : ℕ) → offset ≡ base + count
-      → (read : EntryReads image t.symbols t.laid t.number offset frame) → EntriesFill image t.symbols t.laid t.number (offset + length read.entry) frames
-      → EntriesFill image t.symbols t.laid t.number base (frame ∷ frames)
-  one_frame base frame frames count before offset is =
-      subst (λ (offset : ℕ). (read : EntryReads image t.symbols t.laid t.number offset frame) → EntriesFill image t.symbols t.laid t.number (offset + length read.entry) frames
-      → EntriesFill image t.symbols t.laid t.number base (frame ∷ frames)) (sym is) (λ read rest. (record { count = count; before = before; read = read }, rest))
-
-  -- the entries of all procedures read in the file, one behind the other
-  all_read : (frames : List Frame) (putting : Putting) → StandsTo t.held putting.end → All (CommonIs (at_end t putting.end)) putting.commons
-      → PlacesAreLabels putting.tables.symbols → NamesStay (entries_put t.number frames putting).tables.symbols t.symbols → All (IsRising t) frames
-      → EntriesStand t.held t.number frames putting → Reaches t.number putting.tables.sections putting.end
-      → slice_get (entries_put t.number frames putting).tables.sections t.number ≡ Some t.held
-      → EntriesFill image t.symbols t.laid t.number (at_end t putting.end) frames
-  all_read [] putting stands commons known stays rising stand reaches are = ends_there putting.tables.sections putting.end are reaches
-  all_read (frame ∷ frames) putting stands commons known stays rising stand reaches are =
-      let labels = facts.pieces.labels in
-      let log = padded_log frames in
-      let found = place_of frame putting.commons in
-      let place = common_place t.number frame putting in
-      let one = common_put t.number frame found putting in
-      let next = frame_put t.number log frame putting in
-      let next_stays : NamesStay next.tables.symbols t.symbols = λ symbol at there. stays symbol at (entries_stay labels t.number frames next symbol at there) in
-      let one_stays : NamesStay one.tables.symbols t.symbols = λ symbol at there. next_stays symbol at (entry_stays labels t.number log place frame one symbol at there) in
-      let ready = one_ready frame found putting refl stands commons known one_stays stand.0.common reaches in
-      let entry = subst (OneEntry log frame one) (sym ready.place)
-      (one_entry frame log one ready.common (All-head (IsRising t) frame frames rising) ready.reads ready.common_stands ready.stands ready.behind ready.known) stand.0.entry next_stays in
-      let moves = entry.1 in
-      let pieces = entry_pieces t.number one.end place log frame in
-      let next_stands = facts.pieces.file.ends.pieces t one.tables frame.pos one.end pieces ready.stands stand.0.entry in
-      let next_known = labels.known one.tables.symbols next.tables.symbols ready.known (labels.pieces t.number frame.pos pieces one.tables) in
-      let next_commons = All-weaker (CommonIs (at_end t one.end)) (CommonIs (at_end t next.end)) (further (at_end t one.end) (at_end t next.end) (omega (arith, moves))) one.commons ready.commons in
-      let rest = all_read frames next next_stands next_commons next_known stays (All-tail (IsRising t) frame frames rising) stand.1
-      (facts.reaches t.number frame.pos pieces one.tables one.end ready.reaches) are in
-      one_frame (at_end t putting.end) frame frames ready.count ready.before (at_end t one.end) ready.end entry.0
-      (subst (λ (offset : ℕ). EntriesFill image t.symbols t.laid t.number offset frames) moves rest)
+use Rattle.frame_laws.proofs.EntriesInOrder.{TableFacts, entries_stay, CommonIs, FrameStep, one_frame, one_step, all_read}
 
 -- the end of a section that is there
 end_there : (section : ℕ) (sections : List LooseSection) (held : LooseSection) → slice_get sections section ≡ Some held → end_of section sections ≡ run_end held
@@ -258,7 +51,8 @@ last_there [] x = refl
 last_there (y ∷ xs) x = last_there xs x
 
 module _ (facts : TableFacts) (frame : Frame) (frames : List Frame) (tables after last : Tables) (laid : LaidSections) (ready : AreReady tables)
-    (covered : All (IsCovered tables.sections) (frame ∷ frames)) (is : layout_of last.symbols last.sections ≡ Ok laid) (low : IsLow last laid)
+    (covered : All (IsCovered tables.sections) (frame ∷ frames)) (is : layout_of last.symbols last.sections ≡ Ok laid)
+    (faultless : object_fault last.symbols laid ≡ None) (low : IsLow last laid)
     (put : IsPlaced frame frames tables after) (goes_on : GoesOn after last) where
   -- the symbols are those that were placed
   first_symbols : put.first.symbols ≡ tables.symbols
@@ -360,7 +154,7 @@ module _ (facts : TableFacts) (frame : Frame) (frames : List Frame) (tables afte
       abbrev begun : Putting
       begun = common_begun put.section frame put.first
 
-      -- what names a place behind the first common entry does so in the end
+      -- what names a place behind the first CIE does so in the end
       begun_stays : NamesStay begun.tables.symbols last.symbols
       begun_stays symbol at there =
           facts.pieces.labels.stays after.symbols last.symbols symbol at goes_on.labels
@@ -369,10 +163,10 @@ module _ (facts : TableFacts) (frame : Frame) (frames : List Frame) (tables afte
       first_known : PlacesAreLabels put.first.symbols
       first_known = subst PlacesAreLabels (sym first_symbols) ready.named
 
-      -- the first common entry reads
-      first_reads : CommonReads (image_of last.symbols laid) last.symbols laid put.section (at_end section table.start) (form_of frame) frame.personality
+      -- the first CIE reads
+      first_reads : CommonReads (image_of last.symbols laid) last.symbols laid put.section (at_end section table.start) frame
           × (at_end section (behind_pieces (common_pieces frame) table.start) ≡ at_end section table.start + (4 + common_length (form_of frame)))
-      first_reads = common_reads facts.pieces section facts.commons frame table.start put.first start_stands first_known begun_stays table.common
+      first_reads = common_reads facts.pieces section faultless facts.commons frame table.start put.first start_stands first_known begun_stays table.common
 
       begun_stands : StandsTo held begun.end
       begun_stands = subst (StandsTo held) table.end (facts.pieces.file.ends.pieces section put.first frame.pos table.start (common_pieces frame) start_stands table.common)
@@ -380,12 +174,13 @@ module _ (facts : TableFacts) (frame : Frame) (frames : List Frame) (tables afte
       begun_end : at_end section begun.end ≡ at_end section table.start + (4 + common_length (form_of frame))
       begun_end = ap (at_end section) (sym table.end) ∙ first_reads.1
 
-      begun_common : All (CommonIs facts section (at_end section begun.end)) begun.commons
+      begun_common : All (CommonIs facts section faultless (at_end section begun.end)) begun.commons
       begun_common =
           let moves = begun_end in
-          All-cons (CommonIs facts section (at_end section begun.end)) (record { frame = frame; place = end_place put.section (end_of put.section put.first.sections) }) []
+          All-cons (CommonIs facts section faultless (at_end section begun.end))
+          (record { frame = frame; place = end_place put.section (end_of put.section put.first.sections) }) []
           (record { end = table.start; place = sym table.place; stands = start_stands; behind = omega (arith, moves); reads = first_reads.0 })
-          (All-nil (CommonIs facts section (at_end section begun.end)))
+          (All-nil (CommonIs facts section faultless (at_end section begun.end)))
 
       begun_reaches : Reaches put.section begun.tables.sections begun.end
       begun_reaches =
@@ -393,14 +188,42 @@ module _ (facts : TableFacts) (frame : Frame) (frames : List Frame) (tables afte
           facts.reaches put.section frame.pos (rest_pieces frame) head (end_of put.section head.sections)
           (facts.plain_reaches put.section frame.pos (common_head (form_of frame)) put.first put.takes)
 
-      -- the entries read behind it
-      entries_read : EntriesFill (image_of last.symbols laid) last.symbols laid put.section (at_end section begun.end) (frame ∷ frames)
-      entries_read =
-          all_read facts section (frame ∷ frames) begun begun_stands begun_common
+      -- the first procedure finds its CIE
+      begun_found : place_of frame begun.commons ≡ Some (end_place put.section (end_of put.section put.first.sections))
+      begun_found =
+          ap (λ (b : Bool). option_map (λ (common : Common). common.place)
+          (if b then Some (record { frame = frame; place = end_place put.section (end_of put.section put.first.sections) }) else None))
+          ((facts.sharing frame frame).1 (refl, refl))
+
+      -- its FDE and all entries behind it
+      first_step : FrameStep facts section faultless frame frames begun []
+      first_step =
+          one_step facts section faultless frame frames (all_read facts section faultless frames) begun []
+          (facts.first.first put.section (padded_log frames) frame put.first) begun_stands begun_common
           (facts.pieces.labels.known put.first.symbols begun.tables.symbols first_known (facts.pieces.labels.pieces put.section frame.pos (common_pieces frame) put.first))
           (λ symbol at named. facts.pieces.labels.stays after.symbols last.symbols symbol at goes_on.labels
           (subst (λ (t : Tables). NamesPlace t.symbols symbol at) (sym put.put) named))
           all_rising table.entries begun_reaches (ap (λ (t : Tables). slice_get t.sections put.section) (sym put.put) ∙ there)
+
+      first_end : at_end section (common_put put.section frame (place_of frame begun.commons) begun).end ≡ at_end section table.start + (4 + common_length (form_of frame))
+      first_end =
+          let none : first_step.ready.count ≡ 0 =
+          first_step.ready.before ∙ ap (λ (found : Option SectionPlace). bytes_before (option_map (place_address laid) found) frame) begun_found in
+          let count = first_step.ready.end in
+          let start = begun_end in
+          omega (arith, none, count, start)
+
+      first_common : first_step.read.common ≡ at_end section table.start
+      first_common =
+          first_step.common
+          ∙ ap (λ (found : Option SectionPlace). place_address laid (unwrap_or found (end_place put.section begun.end))) begun_found
+          ∙ ap (place_address laid) (sym table.place)
+
+      -- the entries read from the first CIE on
+      entries_read : EntriesFill (image_of last.symbols laid) last.symbols laid put.section (at_end section table.start) [] (frame ∷ frames)
+      entries_read =
+          one_frame facts section faultless (at_end section table.start) [] frame frames (4 + common_length (form_of frame)) refl
+          (at_end section (common_put put.section frame (place_of frame begun.commons) begun).end) first_end first_step.read first_common first_step.rest
 
       -- the table reads in the file
       table_reads : TableReads (image_of last.symbols laid) last.symbols laid (frame ∷ frames)
@@ -408,11 +231,8 @@ module _ (facts : TableFacts) (frame : Frame) (frames : List Frame) (tables afte
         number = put.section;
         section = subst (λ found. IsSomeAnd found IsTableSection) (sym own.1)
             (record { named = held_named; filed = section.takes });
-        first = frame;
-        is_first = refl;
         common = at_end section table.start;
-        cie = first_reads.0;
-        entries = subst (λ (offset : ℕ). EntriesFill (image_of last.symbols laid) last.symbols laid put.section offset (frame ∷ frames)) begun_end entries_read;
+        entries = entries_read;
         few = few_labels;
       }
 
@@ -436,5 +256,5 @@ module _ (facts : TableFacts) (frame : Frame) (frames : List Frame) (tables afte
 
 -- whatever was placed, its table reads
 pub tables_read : TableFacts → FrameTablesRead
-tables_read facts frame frames tables after last laid ready covered made goes_on is low =
-    reads facts frame frames tables after last laid ready covered is low (facts.found frame frames tables after ready.within made) goes_on
+tables_read facts frame frames tables after last laid ready covered made goes_on is faultless low =
+    reads facts frame frames tables after last laid ready covered is faultless low (facts.found frame frames tables after ready.within made) goes_on

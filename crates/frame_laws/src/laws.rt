@@ -5,17 +5,17 @@ ghost use Rattle.frame_laws.specs.TableReads.{FrameTablesRead};
 use crate::counts::labels_are_few;
 use asm_relax::layouts_keep_sections;
 use cfi_entries::common_entries_read;
-use eh_frame::{entries_read, tables_are_found, tables_stand_behind};
+use eh_frame::{commons_are_shared, entries_read, tables_are_found, tables_stand_behind};
 use piece_laws::{places_rise, tables_are_in_file};
 use table_pieces::{ends_are_counted, places_are_named, sections_keep_places};
 
-/// In the file of every layout in which no section is too large, whatever is put behind the table into other sections, the
-/// CIE of the first procedure stands in `.eh_frame`, and directly behind it, up to the section's end, the FDE of each
-/// procedure in order, each directly behind its CIE where that is another one: its CIE pointer leads back to a CIE that says
-/// how the pointers of the procedure are written and names its personality, its initial location is the procedure's
-/// beginning, by one relocation where that is in another section, its range the procedure's, it names the procedure's LSDA,
-/// and at each distance from there the CIE and the FDE give, by their bytes, the row that the directives of the procedure
-/// mean, and none from its end on.
+/// In the object of every layout in which no section is too large, whatever is put behind the table into other sections,
+/// there stand in `.eh_frame`, up to the section's end, the entries of the procedures in order, one directly behind the other:
+/// of each its CIE, unless an earlier procedure shares it, then its FDE. The CIE pointer of an FDE leads back to the CIE of
+/// the first procedure that shares it, which says how pointers are written and names the personality; its initial location is
+/// the procedure's beginning, by one relocation where that is in another section, its range the procedure's, it names the
+/// procedure's LSDA, and at each distance from there the CIE and the FDE give, by their bytes, the row that the directives of
+/// the procedure mean, and none from its end on.
 pub fn frame_tables_read()
     ensures { FrameTablesRead }
 {
@@ -26,6 +26,7 @@ pub fn frame_tables_read()
     ends_are_counted();
     places_rise();
     tables_are_in_file();
+    commons_are_shared();
     tables_are_found();
     tables_stand_behind();
     entries_read();

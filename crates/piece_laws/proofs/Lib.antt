@@ -10,6 +10,7 @@ mod SectionInFile
 mod MarkSymbols
 mod LaidMarks
 mod TableSections
+mod FilledFields
 mod LocationRelocations
 mod GrownRoom
 mod PieceBytes

@@ -9,8 +9,8 @@ use Rattle.table_pieces.specs.Labels.{PlacesAreLabels}
 use Rattle.table_pieces.specs.Made.{Made, piece_bytes, pieces_bytes, AreMade}
 use Rattle.table_pieces.specs.Pieces.{Piece, Tables, piece_put, pieces_put}
 use Rattle.piece_laws.specs.HeldDistances.{NamesStay}
-use Rattle.piece_laws.specs.LaidTables.{place_address, end_address, LaidTable, StandsTo}
-use Rattle.piece_laws.specs.PiecesInFile.{AllFit, AreInFile, PiecesAreInFile}
+use Rattle.piece_laws.specs.LaidTables.{place_address, StandsTo}
+use Rattle.piece_laws.specs.PiecesInFile.{AllFit, PiecesAreInFile}
 use Rattle.piece_laws.proofs.Parts.{stands_both, stands_behind, stands_first}
 use Rattle.piece_laws.proofs.TableSections.{PieceFacts, TableSection, table_section, image, base, at_end, end_is}
 use Rattle.piece_laws.proofs.PieceBytes.{piece_stays, piece_made}

@@ -1,27 +1,30 @@
 -- The fields that the linker fills: their places and their relocations.
-use Rattle.std.proofs.Common.{◌≡◌, ℕ, ◌+◌, ◌^◌, ◌<◌, ◌≤◌, ◌==◌, false, Option, Some, None, length, refl, sym, ap, ◌∙◌, subst, arith}
+use Rattle.std.proofs.Common.{◌≡◌, ℕ, ◌+◌, ◌^◌, ◌<◌, ◌≤◌, ◌==◌, Bool, false, Option, Some, None, length, refl, sym, ap, ◌∙◌, subst, arith}
 use Rattle.std.specs.Prelude.{slice_get, IsSomeAnd}
 use Rattle.std.specs.Option.{option_map_or, unwrap_or}
 use Rattle.std.proofs.lemmas.Bool.Decides.{nat_tests}
 use Rattle.std.proofs.lemmas.Option.{slice_get_within}
 use Rattle.asm_base.specs.declared.places.SectionPlace.{SectionPlace}
 use Rattle.asm_base.specs.declared.positions.Pos.{Pos}
-use Rattle.asm_expr.specs.Forms.{Form, symbol_form}
+use Rattle.asm_expr.specs.Forms.{Form, wrapped, symbol_form}
 use Rattle.asm_symbols.specs.declared.entries.Symbol.{Symbol}
 use Rattle.asm_symbols.specs.SymbolMap.{SymbolMap}
 use Rattle.asm_frags.specs.declared.fields.Field.{Field}
 use Rattle.asm_frags.specs.declared.fields.FieldSize.{FieldSize}
 use Rattle.asm_frags.specs.declared.fields.FieldSize.TheVariants.{Four, Eight}
-use Rattle.asm_frags.specs.Fields.{width, own_place}
+use Rattle.asm_frags.specs.declared.roles.FieldRole.{FieldRole}
+use Rattle.asm_frags.specs.Fields.{data_role, width, own_place}
 use Rattle.asm_frags.specs.SectionOf.{SectionOf}
 use Rattle.asm_frags.specs.Substituting.{substituted_field}
 use Rattle.assigned_forms.specs.Linked.{linked}
-use Rattle.asm_relax.specs.FieldValues.{held_value}
+use Rattle.item_rows.specs.Links.{is_suffixed}
+use Rattle.asm_relax.specs.FieldValues.{counted_bytes, held_value}
 use Rattle.asm_relax.specs.Final.{address_in, address_of}
 use Rattle.asm_relax.specs.Settling.{LaidItem}
+use Rattle.elf_object.specs.Faults.{object_fault}
 use Rattle.elf_object.specs.FieldRelocations.{HasOneRelocation}
 use Rattle.elf_object.specs.Places.{moved}
-use Rattle.elf_object.specs.Relocations.{field_place, field_relocation}
+use Rattle.elf_object.specs.Relocations.{sized_kind, field_place, field_relocation}
 use Rattle.table_pieces.specs.declared.ends.SectionEnd.{SectionEnd}
 use Rattle.table_pieces.specs.declared.marks.Mark.TheVariants.{At}
 use Rattle.table_pieces.specs.Ends.{behind_plain}
@@ -31,14 +34,15 @@ use Rattle.table_pieces.specs.Marks.{HaveTwoTerms, with_label, with_marks, mark_
 use Rattle.table_pieces.specs.Pieces.{from_here}
 use Rattle.table_pieces.specs.StandingPlaces.{HoldsItems}
 use Rattle.piece_laws.specs.HeldDistances.{NamesStay}
-use Rattle.piece_laws.specs.LaidTables.{place_address, end_address, LaidTable, StandsTo}
-use Rattle.piece_laws.specs.Pointers.{distance_relocation, address_relocation, PointsTo, HoldsAddress, HoldsForm, PointersPoint, AddressesAreHeld, FormsAreHeld}
+use Rattle.piece_laws.specs.LaidTables.{place_address, end_address, StandsTo}
+use Rattle.piece_laws.specs.Pointers.{distance_relocation, address_relocation, PointsTo, HoldsAddress, LinkerFills, IsFilled, HoldsForm, PointersPoint, AddressesAreHeld, FormsAreHeld}
+use Rattle.piece_laws.proofs.FilledFields.{own_left, kind_is}
 use Rattle.piece_laws.proofs.LocationRelocations.{location_said, address_said}
 use Rattle.piece_laws.proofs.MarkSymbols.{has_distance, has_address}
 use Rattle.piece_laws.proofs.NumberForms.{both_form}
 use Rattle.piece_laws.proofs.Shifts.{shift_rises}
 use Rattle.piece_laws.proofs.SectionInFile as section_in_file
-use Rattle.piece_laws.proofs.TableSections.{PieceFacts, TableSection, table_section, kept, at_end, end_is, kept_long, kept_small}
+use Rattle.piece_laws.proofs.TableSections.{PieceFacts, TableSection, table_section, image, base, kept, at_end, end_is, kept_long, kept_small}
 use Rattle.piece_laws.proofs.PieceBytes.{run_is, run_enough, field_made}
 
 module _ (facts : PieceFacts) (t : TableSection) where
@@ -165,27 +169,62 @@ module _ (facts : PieceFacts) (t : TableSection) where
             (ap (field_behind Eight t.number pos end) form) there;
       }
 
-  -- the field of a form holds it
-  form_holds : (size : FieldSize) (pos : Pos) (end : SectionEnd) (form : Form) → FieldBehind size t.held t.number pos end form
-      → HoldsForm t.symbols t.laid t.number (kept facts t) (at_end facts t end) size form
-  form_holds size pos end form at =
-      let field = substituted_field (linked t.symbols) (field_behind size t.number pos end form) in
+  -- a field that is left to the linker has one relocation, which says what its form is
+  left_to_linker : (index : ℕ) (field : Field) → object_fault t.symbols t.laid ≡ None → slice_get (kept facts t).fields index ≡ Some field → field.role ≡ data_role
+      → held_value t.symbols t.laid field ≡ None → LinkerFills t.symbols t.laid t.number index (kept facts t) field
+  left_to_linker index field faultless there plain_role none =
       let kept_there = section_in_file.kept_there facts.file t.symbols t.sections t.laid t.number t.held t.is t.found t.takes t.low in
+      let made = facts.file.valueless t.symbols t.laid t.number index (kept facts t) field faultless
+      (record { found = kept_there; takes_bytes = t.takes; there = there }) none in
+      let kind = kind_is t.symbols t.laid field t.number (kept facts t) made.0 plain_role made.1.says in
+      let bare : is_suffixed field.role.suffix ≡ false = ap (λ (role : FieldRole). is_suffixed role.suffix) plain_role in
+      let behind : field.role.behind < 2 ^ 8 = (let none = ap (λ (role : FieldRole). role.behind) plain_role in omega (arith, none)) in
+      record {
+        relocation = made.0;
+        one = made.1;
+        kind = kind;
+        relative = λ symbol own is. kind ∙ ap (λ (own : Bool). sized_kind own field.size) (own_left t.symbols t.laid field symbol own none is);
+        means = λ begins given value place linked.
+            let plain : value + counted_bytes field.size field.role ≡ value =
+            (let none = ap (counted_bytes field.size) plain_role in omega (arith, none)) in
+            sym (ap wrapped plain)
+            ∙ facts.file.mean begins given t.symbols t.laid t.number value (kept facts t) field made.0 t.few bare behind place made.1.says linked;
+      }
+
+  -- the bytes of the field of a form are those of its value, or 0 with one relocation
+  form_filled : (size : FieldSize) (pos : Pos) (end : SectionEnd) (form : Form) → object_fault t.symbols t.laid ≡ None → (at : FieldBehind size t.held t.number pos end form)
+      → (found : Option ℕ) → held_value t.symbols t.laid (substituted_field (linked t.symbols) (field_behind size t.number pos end form)) ≡ found
+      → IsFilled (image facts t) t.symbols t.laid t.number at.index (kept facts t) (substituted_field (linked t.symbols) (field_behind size t.number pos end form))
+      (base facts t + at_end facts t end) found
+  form_filled size pos end form faultless at (Some value) is =
+      let field = substituted_field (linked t.symbols) (field_behind size t.number pos end form) in (
+        (field_made facts t size pos end form value at (ap (λ (v : Option ℕ). unwrap_or v 0) is)).0,
+        facts.file.valued t.symbols t.laid t.number value (kept facts t) field is,
+      )
+  form_filled size pos end form faultless at None is =
       let there = section_in_file.field_there facts.file t.symbols t.sections t.laid t.number t.held t.is t.found t.takes t.low at.index
-      (field_behind size t.number pos end form) at.field.there in
+      (field_behind size t.number pos end form) at.field.there in (
+        (field_made facts t size pos end form 0 at (ap (λ (v : Option ℕ). unwrap_or v 0) is)).0,
+        left_to_linker at.index (substituted_field (linked t.symbols) (field_behind size t.number pos end form)) faultless there refl is,
+      )
+
+  -- the field of a form holds it
+  form_holds : (size : FieldSize) (pos : Pos) (end : SectionEnd) (form : Form) → object_fault t.symbols t.laid ≡ None → FieldBehind size t.held t.number pos end form
+      → HoldsForm t.symbols t.laid t.number (kept facts t) (at_end facts t end) size form
+  form_holds size pos end form faultless at =
+      let field = substituted_field (linked t.symbols) (field_behind size t.number pos end form) in
       record {
         index = at.index;
         field = field;
-        there = there;
+        there = section_in_file.field_there facts.file t.symbols t.sections t.laid t.number t.held t.is t.found t.takes t.low at.index
+            (field_behind size t.number pos end form) at.field.there;
         own = refl;
         plain = refl;
         stands = run_is facts t pos end (behind_plain (width size) end).items at.run;
         sized = refl;
         role = refl;
         is_form = refl;
-        bytes = (field_made facts t size pos end form (unwrap_or (held_value t.symbols t.laid field) 0) at refl).0;
-        relocated = λ relocation says. facts.file.one t.symbols t.laid t.number at.index (kept facts t) field relocation
-            (record { found = kept_there; takes_bytes = t.takes; there = there }) says;
+        filled = form_filled size pos end form faultless at (held_value t.symbols t.laid field) refl;
       }
 
 -- what holds of the section of a table holds of the one that is there, at the address of an end
@@ -209,6 +248,6 @@ addresses_are_held facts table map pos end at known stays stands starts low has 
     (address_holds facts t map pos end at known stays stands starts low has)
 
 pub forms_are_held : PieceFacts → FormsAreHeld
-forms_are_held facts table size pos end form stands at =
+forms_are_held facts table size pos end form faultless stands at =
     let t : TableSection = table_section facts table in
-    at_address facts t (λ section offset. HoldsForm t.symbols t.laid t.number section offset size form) end (form_holds facts t size pos end form at)
+    at_address facts t (λ section offset. HoldsForm t.symbols t.laid t.number section offset size form) end (form_holds facts t size pos end form faultless at)

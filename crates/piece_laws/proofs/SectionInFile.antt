@@ -19,8 +19,9 @@ use Rattle.asm_relax.specs.Placing.{placed_from, shift_of}
 use Rattle.asm_relax.specs.Settling.{LaidItem, LaidSections, layout_of}
 use Rattle.elf_file.specs.Places.{PieceAt}
 use Rattle.elf_object.specs.Contents.{field_bytes, item_bytes}
-use Rattle.elf_object.specs.FieldRelocations.{SaidFieldsHaveOne}
+use Rattle.elf_object.specs.FieldRelocations.{SaidFieldsHaveOne, ValuelessFieldsHaveOne, ValuesHaveNone}
 use Rattle.elf_object.specs.Image.{image_of}
+use Rattle.elf_object.specs.RelocationLaws.{RelocationsMeanForms}
 use Rattle.elf_object.specs.Places.{section_offset, moved, BytesStand, ValuesStand, IsFiled, IsBetween, ItemsStand}
 use Rattle.table_pieces.specs.declared.ends.SectionEnd.{SectionEnd}
 use Rattle.table_pieces.specs.Ends.{end_place}
@@ -37,6 +38,9 @@ pub record FileFacts : Type 0 where
   pub values : ValuesStand
   pub items : ItemsStand
   pub one : SaidFieldsHaveOne
+  pub valueless : ValuelessFieldsHaveOne
+  pub valued : ValuesHaveNone
+  pub mean : RelocationsMeanForms
   pub addresses : (items : List LaidItem) (index : ℕ) → slice_get (placed_from 0 items) index
       ≡ option_map (λ item. item_laid_at (item.offset + shift_of index 0 items) item.size item) (slice_get items index)
 

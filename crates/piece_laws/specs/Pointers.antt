@@ -1,9 +1,11 @@
--- Fields that the linker fills: the distance from itself to a place, and the address of a place (psABI for AMD64, section 4.4, "Relocation").
-use Rattle.std.specs.Prelude.{◌≡◌, ℕ, ◌+◌, ◌-◌, ◌^◌, ◌<◌, ◌==◌, false, [], ◌∷◌, IsSomeAnd, Some, slice_get, if◌then◌else◌}
+-- Fields that the linker fills: the distance from itself to a place, the address of a place, and a form (psABI for AMD64, section 4.4, "Relocation").
+use Rattle.std.specs.Prelude.{◌≡◌, ℕ, ◌+◌, ◌-◌, ◌^◌, ◌<◌, ◌==◌, Bool, false, true, List, [], ◌∷◌, IsSomeAnd, Option, None, Some, slice_get, if◌then◌else◌}
 use Rattle.asm_base.specs.declared.places.SectionPlace.{SectionPlace}
 use Rattle.asm_base.specs.declared.positions.Pos.{Pos}
-use Rattle.std.specs.Option.{unwrap_or}
-use Rattle.asm_expr.specs.Forms.{Form, term_of, symbol_form}
+use Rattle.asm_expr.specs.declared.forms.Term.{Term}
+use Rattle.asm_expr.specs.Forms.{Form, wrapped, term_of, symbol_form}
+use Rattle.asm_expr.specs.FormValues.{form_value}
+use Rattle.asm_expr.specs.Settled.{settled}
 use Rattle.asm_frags.specs.declared.fields.Field.{Field}
 use Rattle.asm_frags.specs.declared.fields.FieldSize.{FieldSize}
 use Rattle.asm_frags.specs.declared.fields.FieldSize.TheVariants.{Four, Eight}
@@ -11,18 +13,20 @@ use Rattle.asm_frags.specs.Fields.{data_role, low_bytes, own_place}
 use Rattle.asm_frags.specs.SectionOf.{SectionOf}
 use Rattle.asm_symbols.specs.SymbolMap.{SymbolMap}
 use Rattle.assigned_forms.specs.Linked.{linked}
-use Rattle.asm_relax.specs.FieldValues.{held_value}
+use Rattle.asm_relax.specs.FieldValues.{told_in_field, held_value}
 use Rattle.asm_relax.specs.Settling.{LaidItem, LaidSections}
 use Rattle.elf_symbols.specs.declared.targets.Target.{Target}
 use Rattle.elf_symbols.specs.declared.targets.Target.TheVariants.{OfSection, OfSymbol}
 use Rattle.elf_symbols.specs.SymbolValues.{is_flagged}
 use Rattle.elf_object.specs.declared.relocations.Relocation.{Relocation}
 use Rattle.elf_object.specs.declared.relocations.RelocationKind.TheVariants.{Pc32, Direct64}
+use Rattle.elf_object.specs.Faults.{object_fault}
 use Rattle.elf_object.specs.FieldRelocations.{HasOneRelocation}
+use Rattle.elf_object.specs.RelocationLaws.{PlaceStands, IsLinked}
 use Rattle.elf_file.specs.Places.{PieceAt}
 use Rattle.elf_object.specs.Image.{image_of}
 use Rattle.elf_object.specs.Places.{section_offset, moved}
-use Rattle.elf_object.specs.Relocations.{field_relocation, merge}
+use Rattle.elf_object.specs.Relocations.{sized_kind, field_relocation, merge}
 use Rattle.table_pieces.specs.declared.ends.SectionEnd.{SectionEnd}
 use Rattle.table_pieces.specs.Found.{FieldBehind, NumberAt}
 use Rattle.table_pieces.specs.Labels.{NamesPlace, PlacesAreLabels}
@@ -80,8 +84,36 @@ pub record HoldsAddress (map : SymbolMap) (laid : LaidSections) (number : ℕ) (
   pub names_it : NamesPlace map label at
   pub relocated : HasOneRelocation map laid number index section field (address_relocation laid offset at label)
 
--- a data field of this size at this offset of the section, which has this number, is of this form, with the last forms of assigned symbols put in: where it
--- has a value, its bytes hold that, and else they are 0; and where a relocation says it, it has that one
+-- what is left of a form takes a place of the section from a symbol: two terms
+abbrev pub is_place_taken : List Term → Bool
+is_place_taken [] = false
+is_place_taken (term ∷ []) = false
+is_place_taken (one ∷ other ∷ terms) = true
+
+-- the terms of one symbol, alone or less the own place of a field
+abbrev pub one_symbol : ℕ → Bool → List Term
+one_symbol symbol false = term_of symbol 1 ∷ []
+one_symbol symbol true = term_of symbol 1 ∷ term_of own_place (2 ^ 64 - 1) ∷ []
+
+-- the linker fills the field with this index of the section: it has just one relocation. By the field's size that is R_X86_64_64 or R_X86_64_32, S + A, or,
+-- where what is left of the form takes a place of the section from a symbol, R_X86_64_PC64 or R_X86_64_PC32, S + A - P; a form of one symbol does so exactly
+-- where it takes the field's own place from that. What is calculated, wherever sections begin and symbols stand, is the value of the form
+pub record LinkerFills (map : SymbolMap) (laid : LaidSections) (number index : ℕ) (section : SectionOf LaidItem) (field : Field) : Type 0 where
+  pub relocation : Relocation
+  pub one : HasOneRelocation map laid number index section field relocation
+  pub kind : relocation.kind ≡ sized_kind (is_place_taken (settled (told_in_field map laid field) field.form).terms) field.size
+  pub relative : (symbol : ℕ) (own : Bool) → field.form.terms ≡ one_symbol symbol own → relocation.kind ≡ sized_kind own field.size
+  pub means : (begins given : ℕ → ℕ) (value : ℕ) → PlaceStands begins given laid field → IsLinked begins given map laid number relocation value
+      → wrapped value ≡ form_value begins given (told_in_field map laid field) field.form
+
+-- the bytes at this place of the file are those of the field's value, and it has no relocation; where it has no value they are 0, and the linker fills them
+abbrev pub IsFilled : List ℕ → SymbolMap → LaidSections → ℕ → ℕ → SectionOf LaidItem → Field → ℕ → Option ℕ → Type 0
+IsFilled file map laid number index section field at (Some value) =
+    PieceAt file at (low_bytes field.size value) × (field_relocation map laid number section field ≡ None)
+IsFilled file map laid number index section field at None = PieceAt file at (low_bytes field.size 0) × LinkerFills map laid number index section field
+
+-- a data field of this size at this offset of the section, which has this number, is of this form, with the last forms of assigned symbols put in, and is
+-- filled with its value, or by the linker
 pub record HoldsForm (map : SymbolMap) (laid : LaidSections) (number : ℕ) (section : SectionOf LaidItem) (offset : ℕ) (size : FieldSize) (form : Form) : Type 0 where
   pub index : ℕ
   pub field : Field
@@ -92,13 +124,11 @@ pub record HoldsForm (map : SymbolMap) (laid : LaidSections) (number : ℕ) (sec
   pub sized : field.size ≡ size
   pub role : field.role ≡ data_role
   pub is_form : field.form ≡ linked map form
-  pub bytes : PieceAt (image_of map laid) (section_offset map laid number + offset) (low_bytes size (unwrap_or (held_value map laid field) 0))
-  pub relocated : (relocation : Relocation) → field_relocation map laid number section field ≡ Some relocation
-      → HasOneRelocation map laid number index section field relocation
+  pub filled : IsFilled (image_of map laid) map laid number index section field (section_offset map laid number + offset) (held_value map laid field)
 
--- the field of a form behind an end holds it
+-- in an object the field of a form behind an end holds it
 abbrev pub FormsAreHeld : Type 0
-FormsAreHeld = (t : LaidTable) (size : FieldSize) (pos : Pos) (end : SectionEnd) (form : Form) → StandsTo t.held end
+FormsAreHeld = (t : LaidTable) (size : FieldSize) (pos : Pos) (end : SectionEnd) (form : Form) → object_fault t.symbols t.laid ≡ None → StandsTo t.held end
     → FieldBehind size t.held t.number pos end form
     → IsSomeAnd (slice_get t.laid t.number) (λ section. HoldsForm t.symbols t.laid t.number section (end_address t.laid t.number end) size form)
 

@@ -1,19 +1,19 @@
 -- The bytes of a section of the object as a linker leaves them, and the entries of the frame table
 -- of the object.
-use Rattle.std.specs.Prelude.{◌≡◌, ◌+◌, ◌==◌, ℕ, zero, suc, false, List, [], ◌∷◌, length, Option, Some, slice_get}
+use Rattle.std.specs.Prelude.{◌≡◌, ◌+◌, ◌==◌, ℕ, zero, suc, false, List, [], ◌∷◌, ◌++◌, length, Option, Some, slice_get}
 use Rattle.asm_symbols.specs.SymbolMap.{SymbolMap}
 use Rattle.asm_frags.specs.SectionOf.{SectionOf}
 use Rattle.asm_relax.specs.RangeChecks.{whole_size}
 use Rattle.asm_relax.specs.Settling.{LaidItem, LaidSections}
 use Rattle.cfi_directives.specs.declared.frames.Frame.{Frame}
 use Rattle.cfi_rows.specs.declared.rows.CfaRow.{CfaRow}
-use Rattle.cfi_rows.specs.Commons.{common_entry, common_length}
+use Rattle.cfi_rows.specs.Commons.{common_entry}
 use Rattle.cfi_entries.specs.Entries.{row_of}
 use Rattle.eh_frame.specs.Commons.{form_of}
 use Rattle.elf_file.specs.Sections.{no_bits}
 use Rattle.elf_object.specs.Contents.{section_relocations}
 use Rattle.elf_object.specs.Places.{section_offset}
-use Rattle.frame_laws.specs.TableReads.{EntryReads, EntriesFill, TableReads}
+use Rattle.frame_laws.specs.TableReads.{EntryReads, EntriesFill, Preceding, TableReads}
 use Rattle.loaded_laws.specs.Loaded.{IsLoaded}
 
 module _ (object : List ℕ) (map : SymbolMap) (laid : LaidSections) where
@@ -27,21 +27,21 @@ module _ (object : List ℕ) (map : SymbolMap) (laid : LaidSections) where
         (section_relocations map laid number section) code
 
   -- of entries that fill a section from this offset on, the offset of the one of this number
-  abbrev pub offset_of : (table offset : ℕ) → (frames : List Frame)
-      → EntriesFill object map laid table offset frames → (number : ℕ) → ℕ
-  offset_of table offset [] fill number = offset
-  offset_of table offset (frame ∷ frames) fill zero = offset + fill.0.count
-  offset_of table offset (frame ∷ frames) fill (suc number) =
-      offset_of table (offset + fill.0.count + length fill.0.read.entry) frames fill.1 number
+  abbrev pub offset_of : (table offset : ℕ) → (earlier : List Preceding) → (frames : List Frame)
+      → EntriesFill object map laid table offset earlier frames → (number : ℕ) → ℕ
+  offset_of table offset earlier [] fill number = offset
+  offset_of table offset earlier (frame ∷ frames) fill zero = offset + fill.0.count
+  offset_of table offset earlier (frame ∷ frames) fill (suc number) =
+      offset_of table (offset + fill.0.count + length fill.0.read.entry)
+      (earlier ++ record { frame = frame; common = fill.0.read.common } ∷ []) frames fill.1 number
 
   -- a frame has the entry of this number in the frame table of the object, which has one for each
-  -- of these frames: its FDE. It stands at this offset of `.eh_frame`, behind the first CIE and the
-  -- entries before it, and begins and ends where the frame does
+  -- of these frames: its FDE. It stands at this offset of `.eh_frame`, behind the entries before it
+  -- and its CIE, where that is not shared, and begins and ends where the frame does
   pub record HasEntry {frames : List Frame} (table : TableReads object map laid frames)
       (number : ℕ) (frame : Frame) : Type 0 where
     pub offset : ℕ
-    pub numbered : offset ≡ offset_of table.number
-        (table.common + (4 + common_length (form_of table.first))) frames table.entries number
+    pub numbered : offset ≡ offset_of table.number table.common [] frames table.entries number
     pub reads : EntryReads object map laid table.number offset frame
 
   -- the row that the bytes of the CIE and of this FDE give so far from where the FDE begins, if

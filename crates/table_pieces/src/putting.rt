@@ -29,7 +29,8 @@ pub fn put_plain(
 ) -> Result<(), FragFault>
     requires { spec.Takes table.section sections.old }
     ensures ok { OnOk result (spec.tables_of symbols.now sections.new
-        ≡ spec.piece_put table.section table.pos (spec.plain bytes.now) (spec.tables_of symbols.now sections.old)) }
+        ≡ spec.piece_put table.section table.pos (spec.plain bytes.now)
+        (spec.tables_of symbols.now sections.old)) }
     ensures takes { OnOk result (spec.Takes table.section sections.new) }
     ensures memory { IfErr result (λ fault. fault ≡ NoMemory) }
 {
@@ -47,7 +48,8 @@ pub fn put_number(
 ) -> Result<(), FragFault>
     requires { spec.Takes table.section sections.old }
     ensures ok { OnOk result (spec.tables_of symbols.new sections.new
-        ≡ spec.number_put table.section table.pos distance (spec.tables_of symbols.old sections.old)) }
+        ≡ spec.number_put table.section table.pos distance
+        (spec.tables_of symbols.old sections.old)) }
     ensures takes { OnOk result (spec.Takes table.section sections.new) }
     ensures memory { IfErr result (λ fault. fault ≡ NoMemory) }
 {
@@ -71,7 +73,8 @@ pub fn put_pointer(
 ) -> Result<(), FragFault>
     requires { spec.Takes table.section sections.old }
     ensures ok { OnOk result (spec.tables_of symbols.new sections.new
-        ≡ spec.piece_put table.section table.pos (spec.pointer place) (spec.tables_of symbols.old sections.old)) }
+        ≡ spec.piece_put table.section table.pos (spec.pointer place)
+        (spec.tables_of symbols.old sections.old)) }
     ensures takes { OnOk result (spec.Takes table.section sections.new) }
     ensures memory { IfErr result (λ fault. fault ≡ NoMemory) }
 {
@@ -90,7 +93,8 @@ pub fn put_address(
 ) -> Result<(), FragFault>
     requires { spec.Takes table.section sections.old }
     ensures ok { OnOk result (spec.tables_of symbols.new sections.new
-        ≡ spec.piece_put table.section table.pos (spec.address place) (spec.tables_of symbols.old sections.old)) }
+        ≡ spec.piece_put table.section table.pos (spec.address place)
+        (spec.tables_of symbols.old sections.old)) }
     ensures takes { OnOk result (spec.Takes table.section sections.new) }
     ensures memory { IfErr result (λ fault. fault ≡ NoMemory) }
 {
@@ -115,7 +119,8 @@ pub fn put_field(
 ) -> Result<(), FragFault>
     requires { spec.Takes table.section sections.old }
     ensures ok { OnOk result (spec.tables_of symbols.now sections.new
-        ≡ spec.piece_put table.section table.pos (spec.field size form) (spec.tables_of symbols.now sections.old)) }
+        ≡ spec.piece_put table.section table.pos (spec.field size form)
+        (spec.tables_of symbols.now sections.old)) }
     ensures takes { OnOk result (spec.Takes table.section sections.new) }
     ensures memory { IfErr result (λ fault. fault ≡ NoMemory) }
 {
@@ -133,7 +138,8 @@ pub fn put_advance(
 ) -> Result<(), FragFault>
     requires { spec.Takes table.section sections.old }
     ensures ok { OnOk result (spec.tables_of symbols.new sections.new
-        ≡ spec.piece_put table.section table.pos (spec.advance distance) (spec.tables_of symbols.old sections.old)) }
+        ≡ spec.piece_put table.section table.pos (spec.advance distance)
+        (spec.tables_of symbols.old sections.old)) }
     ensures takes { OnOk result (spec.Takes table.section sections.new) }
     ensures memory { IfErr result (λ fault. fault ≡ NoMemory) }
 {
@@ -152,7 +158,8 @@ pub fn put_leb128(
 ) -> Result<(), FragFault>
     requires { spec.Takes table.section sections.old }
     ensures ok { OnOk result (spec.tables_of symbols.new sections.new
-        ≡ spec.piece_put table.section table.pos (spec.leb128 distance) (spec.tables_of symbols.old sections.old)) }
+        ≡ spec.piece_put table.section table.pos (spec.leb128 distance)
+        (spec.tables_of symbols.old sections.old)) }
     ensures takes { OnOk result (spec.Takes table.section sections.new) }
     ensures memory { IfErr result (λ fault. fault ≡ NoMemory) }
 {
@@ -172,7 +179,8 @@ pub fn put_padding(
     requires takes { spec.Takes table.section sections.old }
     requires small { log ≤ 30 }
     ensures ok { OnOk result (spec.tables_of symbols.now sections.new
-        ≡ spec.piece_put table.section table.pos (spec.padding log) (spec.tables_of symbols.now sections.old)) }
+        ≡ spec.piece_put table.section table.pos (spec.padding log)
+        (spec.tables_of symbols.now sections.old)) }
     ensures takes { OnOk result (spec.Takes table.section sections.new) }
     ensures memory { IfErr result (λ fault. fault ≡ NoMemory) }
 {

@@ -17,6 +17,8 @@ returns c =
       found = c.tables_are_found.ensures;
       behind = c.tables_stand_behind.ensures.table;
       few = c.labels_are_few.ensures;
+      sharing = c.commons_are_shared.ensures.equal;
+      first = c.commons_are_shared.ensures.first;
       reaches = c.ends_are_counted.ensures.pieces;
       plain_reaches = c.ends_are_counted.ensures.plain;
     })

@@ -14,6 +14,9 @@ returns c =
         values = c.values_stand.ensures;
         items = c.items_stand.ensures;
         one = c.fields_have_one_relocation.ensures.said;
+        valueless = c.fields_have_one_relocation.ensures.valueless;
+        valued = c.fields_have_one_relocation.ensures.valued;
+        mean = c.relocations_mean_forms.ensures;
         addresses = c.sizes_add_up.ensures.item;
       };
       labels = record {

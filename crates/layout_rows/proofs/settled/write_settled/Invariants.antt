@@ -1,5 +1,0 @@
--- Nothing else counts on the ledger.
-use Rattle.layout_rows.proofs.settled.write_settled.Given as goal
-
-abbrev pub ghosts-rounds_of : goal.ghosts-rounds_of
-ghosts-rounds_of a = record { name = a.blank.name; parts = a.blank.parts }
