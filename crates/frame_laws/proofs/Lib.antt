@@ -12,3 +12,4 @@ mod EntryReading
 mod PlacedFrames
 mod EntriesInOrder
 mod Tables
+mod NamedSymbols

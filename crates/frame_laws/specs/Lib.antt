@@ -2,3 +2,4 @@
 pub mod LabelCounts
 pub mod PlacedTables
 pub mod TableReads
+pub mod NamedSymbols

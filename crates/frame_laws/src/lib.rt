@@ -3,6 +3,8 @@
 
 mod counts;
 mod laws;
+mod pointers;
 
 pub use counts::labels_are_few;
 pub use laws::frame_tables_read;
+pub use pointers::symbols_are_named;

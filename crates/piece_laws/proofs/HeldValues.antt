@@ -1,11 +1,13 @@
 -- The values of fields that hold distances.
-use Rattle.std.proofs.Common.{◌≡◌, ℕ, ◌+◌, ◌-◌, ◌*◌, ◌^◌, ◌<◌, ◌==◌, ◌||◌, Bool, true, false, cond, None, Some, refl, sym, ap, subst, ◌∙◌, arith}
+use Rattle.std.proofs.Common.{◌≡◌, ℕ, ◌+◌, ◌-◌, ◌*◌, ◌^◌, ◌<◌, ◌≤◌, ◌==◌, ◌||◌, Bool, true, false, cond, List, length, None, Some, refl, sym, ap, subst, ◌∙◌, arith}
 use Rattle.std.specs.Prelude.{option_map}
 use Rattle.std.proofs.lemmas.Bool.Decides.{Decides-eqb}
+use Rattle.asm_expr.specs.declared.forms.Term.{Term}
 use Rattle.asm_expr.specs.Coefficients.{is_among}
 use Rattle.asm_expr.specs.Forms.{Form, wrapped, constant_form, symbol_form}
 use Rattle.asm_expr.specs.Knowledge.{Told, label}
 use Rattle.asm_expr.specs.Settled.{settled, put_all, constant_left}
+use Rattle.asm_symbols.specs.Assigning.{form_at}
 use Rattle.asm_symbols.specs.SymbolMap.{SymbolMap}
 use Rattle.asm_frags.specs.declared.fields.Field.{Field}
 use Rattle.asm_frags.specs.Fields.{own_place}
@@ -17,8 +19,9 @@ use Rattle.asm_relax.specs.FieldValues.{told_in_field, less, counted_bytes, coun
 use Rattle.asm_relax.specs.Settling.{LaidSections}
 use Rattle.asm_base.specs.declared.places.SectionPlace.{SectionPlace}
 use Rattle.table_pieces.specs.declared.marks.Distance.{Distance}
-use Rattle.table_pieces.specs.declared.marks.Mark.TheVariants.{At}
+use Rattle.table_pieces.specs.declared.marks.Mark.TheVariants.{Here, At}
 use Rattle.piece_laws.specs.HeldDistances.{mark_section, HasDistance, IsPlainDistance, laid_mark, Leads, DistancesAreHeld, FormsAreExpanded, IsBetweenPlaces, PlacesAreApart, HasAddress, AddressesAreLinked}
+use Rattle.piece_laws.specs.Pointers.{one_symbol, OneSymbolsStay}
 use Rattle.piece_laws.proofs.LinkedForms.{linked_formless}
 use Rattle.piece_laws.proofs.NumberForms.{both_form, apart_form, same_form}
 use Rattle.piece_laws.proofs.ToldMarks.{label_else, mark_formless, mark_strong, mark_known}
@@ -32,6 +35,19 @@ unnamed_expanded map form none = rw none refl
 unnamed_linked : (map : SymbolMap) (form : Form) → names_assigned (linked_map map) form ≡ false → linked map form ≡ form
 unfolding linked
 unnamed_linked map form none = unnamed_expanded (linked_map map) form none
+
+-- one symbol that is no assigned one stays in a form, alone or beside the own place of a field
+one_unassigned : (map : SymbolMap) (symbol : ℕ) (own : Bool) (form : Form) → length map.symbols ≤ own_place → form_at map.symbols symbol ≡ None
+    → names_assigned (linked_map map) (record form { terms = one_symbol symbol own }) ≡ false
+one_unassigned map symbol false form few none = rw (linked_formless map symbol none) refl
+one_unassigned map symbol true form few none =
+    rw (linked_formless map symbol none, linked_formless map own_place (mark_formless map few Here own_place refl)) refl
+
+pub one_stays : OneSymbolsStay
+one_stays map laid number section offset size form symbol own few none is held =
+    held.is_form
+    ∙ unnamed_linked map form
+    (ap (λ (terms : List Term). names_assigned (linked_map map) (record form { terms = terms })) is ∙ one_unassigned map symbol own form few none)
 
 -- two labels of one stretch cancel
 both_cancel : (told : ℕ → Told) (stretch at origin to from plus : ℕ) → told to ≡ label stretch at → told from ≡ label stretch origin

@@ -1,5 +1,5 @@
 -- Fields that the linker fills: the distance from itself to a place, the address of a place, and a form (psABI for AMD64, section 4.4, "Relocation").
-use Rattle.std.specs.Prelude.{◌≡◌, ℕ, ◌+◌, ◌-◌, ◌^◌, ◌<◌, ◌==◌, Bool, false, true, List, [], ◌∷◌, IsSomeAnd, Option, None, Some, slice_get, if◌then◌else◌}
+use Rattle.std.specs.Prelude.{◌≡◌, ℕ, ◌+◌, ◌-◌, ◌^◌, ◌<◌, ◌≤◌, ◌==◌, Bool, false, true, List, [], ◌∷◌, length, IsSomeAnd, Option, None, Some, slice_get, if◌then◌else◌}
 use Rattle.asm_base.specs.declared.places.SectionPlace.{SectionPlace}
 use Rattle.asm_base.specs.declared.positions.Pos.{Pos}
 use Rattle.asm_expr.specs.declared.forms.Term.{Term}
@@ -11,6 +11,7 @@ use Rattle.asm_frags.specs.declared.fields.FieldSize.{FieldSize}
 use Rattle.asm_frags.specs.declared.fields.FieldSize.TheVariants.{Four, Eight}
 use Rattle.asm_frags.specs.Fields.{data_role, low_bytes, own_place}
 use Rattle.asm_frags.specs.SectionOf.{SectionOf}
+use Rattle.asm_symbols.specs.Assigning.{form_at}
 use Rattle.asm_symbols.specs.SymbolMap.{SymbolMap}
 use Rattle.assigned_forms.specs.Linked.{linked}
 use Rattle.asm_relax.specs.FieldValues.{told_in_field, held_value}
@@ -125,6 +126,12 @@ pub record HoldsForm (map : SymbolMap) (laid : LaidSections) (number : ℕ) (sec
   pub role : field.role ≡ data_role
   pub is_form : field.form ≡ linked map form
   pub filled : IsFilled (image_of map laid) map laid number index section field (section_offset map laid number + offset) (held_value map laid field)
+
+-- a form of one symbol that is no assigned one, alone or less the own place of the field, is that of the field as it is
+abbrev pub OneSymbolsStay : Type 0
+OneSymbolsStay = (map : SymbolMap) (laid : LaidSections) (number : ℕ) (section : SectionOf LaidItem) (offset : ℕ) (size : FieldSize) (form : Form) (symbol : ℕ) (own : Bool)
+    → length map.symbols ≤ own_place → form_at map.symbols symbol ≡ None → form.terms ≡ one_symbol symbol own
+    → (held : HoldsForm map laid number section offset size form) → held.field.form ≡ form
 
 -- in an object the field of a form behind an end holds it
 abbrev pub FormsAreHeld : Type 0

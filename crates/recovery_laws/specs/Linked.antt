@@ -13,7 +13,7 @@ use Rattle.eh_frame.specs.Commons.{form_of}
 use Rattle.elf_file.specs.Sections.{no_bits}
 use Rattle.elf_object.specs.Contents.{section_relocations}
 use Rattle.elf_object.specs.Places.{section_offset}
-use Rattle.frame_laws.specs.TableReads.{EntryReads, EntriesFill, Preceding, TableReads}
+use Rattle.frame_laws.specs.TableReads.{EntryReads, Preceding, EntriesFill, TableReads}
 use Rattle.loaded_laws.specs.Loaded.{IsLoaded}
 
 module _ (object : List ℕ) (map : SymbolMap) (laid : LaidSections) where
@@ -26,7 +26,8 @@ module _ (object : List ℕ) (map : SymbolMap) (laid : LaidSections) where
     pub loaded : IsLoaded object (section_offset map laid number) (whole_size section)
         (section_relocations map laid number section) code
 
-  -- of entries that fill a section from this offset on, the offset of the one of this number
+  -- of entries that fill a section from this offset on, behind those of earlier procedures, the
+  -- offset of the FDE of this number
   abbrev pub offset_of : (table offset : ℕ) → (earlier : List Preceding) → (frames : List Frame)
       → EntriesFill object map laid table offset earlier frames → (number : ℕ) → ℕ
   offset_of table offset earlier [] fill number = offset
@@ -36,8 +37,8 @@ module _ (object : List ℕ) (map : SymbolMap) (laid : LaidSections) where
       (earlier ++ record { frame = frame; common = fill.0.read.common } ∷ []) frames fill.1 number
 
   -- a frame has the entry of this number in the frame table of the object, which has one for each
-  -- of these frames: its FDE. It stands at this offset of `.eh_frame`, behind the entries before it
-  -- and its CIE, where that is not shared, and begins and ends where the frame does
+  -- of these frames: its FDE. It stands at this offset of `.eh_frame`, behind the entries before it,
+  -- and begins and ends where the frame does
   pub record HasEntry {frames : List Frame} (table : TableReads object map laid frames)
       (number : ℕ) (frame : Frame) : Type 0 where
     pub offset : ℕ

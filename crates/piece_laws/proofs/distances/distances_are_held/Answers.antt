@@ -1,5 +1,5 @@
 -- By what the symbols of marks are known as.
-use Rattle.piece_laws.proofs.HeldValues.{held, are_expanded, places_apart, are_linked}
+use Rattle.piece_laws.proofs.HeldValues.{held, are_expanded, places_apart, are_linked, one_stays}
 use Rattle.piece_laws.proofs.distances.distances_are_held.Goals as goal
 
 pub returns-clause-held : goal.returns-clause-held
@@ -13,3 +13,6 @@ returns-clause-places c = places_apart
 
 pub returns-clause-linked : goal.returns-clause-linked
 returns-clause-linked c = are_linked
+
+pub returns-clause-symbols : goal.returns-clause-symbols
+returns-clause-symbols c = one_stays
