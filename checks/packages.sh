@@ -23,8 +23,10 @@ common='-mtune=nehalem'
 sets=('-g0 -O0' '-g0 -O2' '-g0 -Os' '-g0 -O2 -fPIC' '-g0 -O2 -masm=intel' '-g0 -O0 -masm=intel'
     '-g0 -O2 -fno-asynchronous-unwind-tables' '-g -gno-variable-location-views -O2')
 
-# What is known to be refused: addresses that are numbers, `ds:0`, which gcc writes in two files.
-known='lua5.4 -g0 -O2 -masm=intel: refused: 2 bad operand; in 2 files'
+# What is known to be refused: addresses that are numbers, `ds:0`, which gcc writes in two files, and `.cfi_escape`, which
+# it writes at -Os where arguments of a call are on the stack.
+known='lua5.4 -g0 -O2 -masm=intel: refused: 2 bad operand; in 2 files
+pugixml -g0 -Os: refused: 1 unknown directive; in 1 files'
 
 # The source of a package, in the folder that is printed.
 fetch() {
@@ -135,7 +137,7 @@ for package in $packages; do
         elif grep -q 'Assembler messages:' "$room/ours"; then
             told="$package $flags: refused:$(refusals "$room/ours")"
             echo "$told"
-            [ "$told" = "$known" ] || bad=1
+            grep -qxF "$told" <<<"$known" || bad=1
         elif [ $got -ne 0 ]; then
             echo "$package $flags: fails ($got)"
             bad=1

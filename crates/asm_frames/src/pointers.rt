@@ -26,10 +26,7 @@ const OMITTED: u64 = 0xff;
 
 /// An encoding, and at most one expression more.
 #[tactic(auto, unfolding(crate::specs::Pointers::pointer_trees))]
-fn pointer_trees(
-    alloc: Global,
-    operands: &mut Operands,
-) -> Result<UpToThree<Expr>, PlaceFault>
+fn pointer_trees(alloc: Global, operands: &mut Operands) -> Result<UpToThree<Expr>, PlaceFault>
     ensures { GivesBy trees_in result (spec.pointer_trees (operands_left operands.old)) }
 {
     let Some(encoding) = operands.next() else {
