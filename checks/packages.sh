@@ -23,10 +23,11 @@ common='-mtune=nehalem'
 sets=('-g0 -O0' '-g0 -O2' '-g0 -Os' '-g0 -O2 -fPIC' '-g0 -O2 -masm=intel' '-g0 -O0 -masm=intel'
     '-g0 -O2 -fno-asynchronous-unwind-tables' '-g -gno-variable-location-views -O2')
 
-# What is known to be refused: addresses that are numbers, `ds:0`, which gcc writes in two files, and `.cfi_escape`, which
+# What is known to be refused: addresses that are numbers, `ds:0`, which gcc writes in some files, and `.cfi_escape`, which
 # it writes at -Os where arguments of a call are on the stack.
 known='lua5.4 -g0 -O2 -masm=intel: refused: 2 bad operand; in 2 files
-pugixml -g0 -Os: refused: 1 unknown directive; in 1 files'
+pugixml -g0 -Os: refused: 1 unknown directive; in 1 files
+pugixml -g0 -O2 -masm=intel: refused: 3 bad operand; in 3 files'
 
 # The source of a package, in the folder that is printed.
 fetch() {
