@@ -35,6 +35,42 @@ loop-rounds-init g c = let tops_long = length-tops c.args.all.rows.now in record
   watchers = c.requires.watchers;
 }
 
+pub look_where-count-requires-clause-linked : goal.look_where-count-requires-clause-linked
+look_where-count-requires-clause-linked g c = c.loop-rounds.invariant.watchers.linked
+
+pub look_where-count-requires-clause-several : goal.look_where-count-requires-clause-several
+look_where-count-requires-clause-several g c = c.loop-rounds.invariant.watchers.several
+
+pub look_where-count-requires-clause-many_follows : goal.look_where-count-requires-clause-many_follows
+look_where-count-requires-clause-many_follows g c = c.loop-rounds.invariant.watchers.many_follows
+
+pub look_where-count-requires-clause-followers : goal.look_where-count-requires-clause-followers
+look_where-count-requires-clause-followers g c = c.loop-rounds.invariant.watchers.followers
+
+pub look_where-count-requires-clause-calm : goal.look_where-count-requires-clause-calm
+look_where-count-requires-clause-calm g c = c.loop-rounds.invariant.calm
+
+pub look_where-count-requires-clause-end : goal.look_where-count-requires-clause-end
+look_where-count-requires-clause-end g c = c.loop-rounds.invariant.end
+
+pub look_where-count-requires-clause-inside : goal.look_where-count-requires-clause-inside
+look_where-count-requires-clause-inside g c = c.loop-rounds.invariant.inside
+
+pub put_highest_last-left-requires-clause-inside : goal.put_highest_last-left-requires-clause-inside
+put_highest_last-left-requires-clause-inside g c = c.loop-rounds.invariant.watchers.wide_within
+
+pub move_rows-moved-requires-clause-stand : goal.move_rows-moved-requires-clause-stand
+move_rows-moved-requires-clause-stand g c = c.requires.stand
+
+pub move_rows-moved-requires-clause-ends : goal.move_rows-moved-requires-clause-ends
+move_rows-moved-requires-clause-ends g c = c.requires.ends
+
+pub move_rows-moved-requires-clause-dependents : goal.move_rows-moved-requires-clause-dependents
+move_rows-moved-requires-clause-dependents g c = c.requires.dependents
+
+pub returns-then-count-eq0-clause-watchers : goal.returns-then-count-eq0-clause-watchers
+returns-then-count-eq0-clause-watchers g c = c.loop-rounds.invariant.watchers
+
 pub look_where-count-requires-clause-wide_several : goal.look_where-count-requires-clause-wide_several
 look_where-count-requires-clause-wide_several g c = several_first c.args.all.rows.now c.loop-rounds.wide c.loop-rounds.left c.loop-rounds.invariant.watchers.wide_several
 
