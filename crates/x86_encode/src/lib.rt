@@ -2,6 +2,7 @@
 #![tactic(auto)]
 
 mod encoding;
+mod fitting;
 mod laws;
 mod lengths;
 mod making;

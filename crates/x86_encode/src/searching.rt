@@ -7,12 +7,13 @@ ghost use Rattle.x86_parts.specs.Building.{place_at};
 ghost use Rattle.x86_parts.specs.Codes.{named};
 ghost use Rattle.x86_parts.specs.Keys.{least_length, Steps, Finds};
 
+use crate::fitting::parts_fit;
 use crate::lengths::{has_rex, length_of};
 use crate::showing::shows;
 use x86_insn::{Insn, Mnemonic, Values};
 use x86_lookup::{keys, rows, rows_of_size};
 use x86_parts::{Found, Laid, admits, built, is_reached, sorts_of};
-use x86_table::{Row, parts_fit};
+use x86_table::Row;
 
 /// Finds the row at an index, if it takes the instruction in fewer bytes than what was found. It is
 /// not tried where the fewest bytes that it has are no fewer.

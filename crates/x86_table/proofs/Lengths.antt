@@ -1,5 +1,5 @@
 -- How many bytes an instruction has.
-use Rattle.std.proofs.Common.{◌≡◌, ◌<◌, ◌≤◌, ◌++◌, ℕ, List, length, length-append, arith, sym, subst, nat_le}
+use Rattle.std.proofs.Common.{◌<◌, ◌≤◌, ℕ, List, length, length-append, arith, sym, subst, nat_le}
 use Rattle.std.proofs.lemmas.Bool.{and_parts, leb-true}
 use Rattle.x86_table.specs.declared.forms.Row.{Row}
 use Rattle.x86_table.specs.Fields.{Fields}

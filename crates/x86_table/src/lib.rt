@@ -2,15 +2,14 @@
 #![tactic(auto)]
 
 mod chapters;
-mod fitting;
 mod forms;
 mod laws;
 pub mod mnemonics;
 mod parts;
+mod rex;
 mod spelling;
 mod table;
 
-pub use fitting::parts_fit;
 pub use forms::{
     Destinations, Immediate, Implied, Lead, Map, Outputs, Pattern, Repeat, Rm, Row, Shape,
     StoreKind, Words,
@@ -20,5 +19,6 @@ pub use laws::{
     worked_order, worked_readings, worked_writes,
 };
 pub use parts::{Parts, Place, Width};
+pub use rex::rex_bits;
 pub use spelling::{Bytes, bytes_of};
 pub use table::ROWS;

@@ -7,9 +7,9 @@ ghost use Rattle.x86_table.specs.Fields.{based, located, fields_of};
 ghost use Rattle.x86_table.specs.Bytes.{opt, first_byte, size_byte, repeat_byte, lock_byte, rex_byte, escape_byte, second_escape, number_or_zero, long, displacement_bytes, mode, sib, place_bytes, modrm_bytes, immediate_bytes, bytes_of};
 ghost use Rattle.x86_table.specs.Fits.{scale_of, place_scale, AreBytes};
 
-use crate::fitting::rex_bits;
 use crate::forms::{Immediate, Map, Repeat, Row, Shape};
 use crate::parts::{Parts, Place, Width};
+use crate::rex::rex_bits;
 use arrayvec::ArrayVec;
 use x86_insn::{Index, Prefix, Segment};
 

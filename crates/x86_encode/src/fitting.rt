@@ -2,26 +2,11 @@
 
 ghost use Rattle.std.specs.Prelude.{◌≡◌, ◌≤◌};
 ghost use Rattle.x86_table.specs.Fields.{located, fields_of};
-ghost use Rattle.x86_table.specs.Bytes.{rex_bits, place_x, place_b, index_high, has_rex};
-ghost use Rattle.x86_table.specs.Fits.{is_signed, long_fits, displacement_fits, index_fits, sib_fits, mode_fits, some_place_fits, is_memory, rm_fits, is_nowhere, place_fits, reg_fits, low_fits, immediate_fits, is_byte, is_middle, is_middle_place, wants_rex, rex_fits, is_no_segment, segment_fits, takes_none, may_rep, may_repe, may_repne, may_lock, may_notrack, prefix_fits, fields_fit};
+ghost use Rattle.x86_table.specs.Fits.{long_fits, displacement_fits, index_fits, sib_fits, mode_fits, some_place_fits, is_memory, rm_fits, is_nowhere, place_fits, reg_fits, low_fits, immediate_fits, is_middle_place, wants_rex, rex_fits, is_no_segment, segment_fits, takes_none, may_rep, may_repe, may_repne, may_lock, may_notrack, prefix_fits, fields_fit};
 
-use crate::forms::{Immediate, Pattern, Repeat, Rm, Row, Shape, Words};
-use crate::parts::{Parts, Place, Width};
-use x86_insn::{Class, Index, Prefix, Segment};
-
-/// Whether the number is sign-extended from 32 bits to 64.
-fn is_signed_long(value: u64) -> bool
-    ensures { result ≡ is_signed 32 64 value }
-{
-    value < 0x8000_0000 || 0xFFFF_FFFF_8000_0000 <= value
-}
-
-/// Whether the number is sign-extended from 8 bits to 64.
-fn is_signed_byte(value: u64) -> bool
-    ensures { result ≡ is_signed 8 64 value }
-{
-    value < 128 || 0xFFFF_FFFF_FFFF_FF80 <= value
-}
+use x86_insn::{Index, Prefix, Segment};
+use x86_parts::{is_byte, is_middle, is_signed_8, is_signed_32};
+use x86_table::{Immediate, Parts, Pattern, Place, Repeat, Rm, Row, Shape, Width, Words, rex_bits};
 
 /// Whether 32 bits hold the number.
 fn long_fits(held: Option<u64>) -> bool
@@ -29,7 +14,7 @@ fn long_fits(held: Option<u64>) -> bool
 {
     match held {
         None => true,
-        Some(value) => is_signed_long(value),
+        Some(value) => is_signed_32(value),
     }
 }
 
@@ -44,7 +29,7 @@ fn displacement_fits(width: Width, held: Option<u64>) -> bool
         },
         Width::Byte => match held {
             None => false,
-            Some(value) => is_signed_byte(value),
+            Some(value) => is_signed_8(value),
         },
         Width::Long => long_fits(held),
     }
@@ -192,14 +177,14 @@ fn value_fits(immediate: Immediate, value: u64) -> bool
         Immediate::Count => value < 256,
         Immediate::Sext16 => value < 128 || 0xFF80 <= value && value < 0x1_0000,
         Immediate::Sext32 => value < 128 || 0xFFFF_FF80 <= value && value < 0x1_0000_0000,
-        Immediate::Sext64 => is_signed_byte(value),
+        Immediate::Sext64 => is_signed_8(value),
         Immediate::Word => value < 0x1_0000,
         Immediate::Long => value < 0x1_0000_0000,
-        Immediate::LongSext => is_signed_long(value),
+        Immediate::LongSext => is_signed_32(value),
         Immediate::Quad => true,
-        Immediate::Rel8 => is_signed_byte(value),
-        Immediate::Short => is_signed_byte(value),
-        Immediate::Rel32 => is_signed_long(value),
+        Immediate::Rel8 => is_signed_8(value),
+        Immediate::Short => is_signed_8(value),
+        Immediate::Rel32 => is_signed_32(value),
     }
 }
 
@@ -234,23 +219,6 @@ fn immediate_fits(immediate: Immediate, held: Option<u64>) -> bool
     }
 }
 
-/// Whether the class is that of al to dil and r8b to r15b.
-fn is_byte(class: Class) -> bool
-    ensures { result ≡ is_byte class }
-{
-    match class {
-        Class::Byte => true,
-        _ => false,
-    }
-}
-
-/// Whether REX tells which 8-bit register the number is.
-fn is_middle(number: u8) -> bool
-    ensures { result ≡ is_middle number }
-{
-    4 <= number && number < 8
-}
-
 /// Whether the place is a register with such a number.
 fn is_middle_place(place: Place, moved: Option<u64>) -> bool
     ensures { result ≡ is_middle_place (located moved place) }
@@ -281,57 +249,6 @@ fn wants_rex(parts: &Parts, pattern: Pattern) -> bool
         Pattern::Immediate => false,
         Pattern::Target => false,
     }
-}
-
-/// REX.X of the index.
-fn index_high(index: Index) -> u8
-    ensures value { result ≡ index_high index }
-    ensures small { result ≤ 31 }
-{
-    match index {
-        Index::Absent => 0,
-        Index::By(number, _) => number / 8,
-    }
-}
-
-/// REX.X of the place.
-fn place_x(place: Place, moved: Option<u64>) -> u8
-    ensures value { result ≡ place_x (located moved place) }
-    ensures small { result ≤ 31 }
-{
-    match place {
-        Place::Absent => 0,
-        Place::Direct(_) => 0,
-        Place::Rip => 0,
-        Place::Bare(index) => index_high(index),
-        Place::Based(_, index, _, _) => index_high(index),
-    }
-}
-
-/// REX.B of the place.
-fn place_b(place: Place, moved: Option<u64>) -> u8
-    ensures value { result ≡ place_b (located moved place) }
-    ensures small { result ≤ 31 }
-{
-    match place {
-        Place::Absent => 0,
-        Place::Direct(number) => number / 8,
-        Place::Rip => 0,
-        Place::Bare(_) => 0,
-        Place::Based(base, _, _, _) => base / 8,
-    }
-}
-
-/// The bits of REX, as 0000WRXB, of parts that fit the row.
-#[tactic(auto, unfolding(crate::specs::Bytes::rex_bits))]
-pub(crate) fn rex_bits(row: &Row, parts: &Parts) -> u16
-    ensures value { result ≡ rex_bits row.now (fields_of parts.now) }
-    ensures small { result ≤ 1000 }
-{
-    let wide: u16 = if row.lead.wide { 8 } else { 0 };
-    wide + 4 * u16::from(parts.reg / 8)
-        + 2 * u16::from(place_x(parts.place, parts.displacement))
-        + (u16::from(place_b(parts.place, parts.displacement)) + u16::from(parts.low / 8))
 }
 
 /// Whether REX may stand without any of its bits, if it does.
@@ -388,7 +305,7 @@ fn prefix_fits(row: &Row, parts: &Parts) -> bool
 }
 
 /// Whether each of the parts is one that the row gives a meaning (Intel SDM, volume 2, chapter 2).
-#[tactic(auto, unfolding(crate::specs::Fits::fields_fit))]
+#[tactic(auto, unfolding(x86_table::specs::Fits::fields_fit))]
 pub fn parts_fit(row: &Row, parts: &Parts) -> bool
     ensures { result ≡ fields_fit row.now (fields_of parts.now) }
 {
