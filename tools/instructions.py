@@ -19,7 +19,7 @@ INTRODUCTION = """\
 # Instructions
 
 Forms of instructions: all {count} rows of the table in crate `x86_table`, of which `tools/instructions.py` writes this
-document. The README says which of them a source may have. Of the forms that take an instruction the shortest counts,
+document. `docs/LANGUAGE.md` says which of them a source may have. Of the forms that take an instruction the shortest counts,
 and of equally short ones the first.
 
 - *Bytes*, as the Intel manual writes them (volume 2, section 3.1.1). `/r` is a ModRM byte with a register and a

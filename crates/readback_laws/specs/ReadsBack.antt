@@ -10,8 +10,9 @@ use Rattle.asm_values.specs.State.{Placed}
 use Rattle.readback_laws.specs.Origins.{FramesAreReady, Origin, AreReached, with_worked_out}
 use Rattle.readback_laws.specs.Instructions.{BareReadBack, CodesReadBack, JumpsReadBack}
 
--- where there are procedures, the CIE stands in `.eh_frame` in the object, and behind it the FDE of each, which at each distance from the procedure's beginning
--- gives the row that its directives mean, and none from its end on. Functions whose frame tables are worked out stand in place of procedures
+-- where there are procedures, `.eh_frame` in the object has, of each in their order, its CIE where none before shares it, and then its FDE, which at each
+-- distance from the procedure's beginning gives the row that its directives mean, and none from its end on. Functions whose frame tables are worked out
+-- take the place of procedures
 abbrev pub FramesReadBack : List ℕ → Placed → SymbolMap → LaidSections → Type 0
 FramesReadBack object whole symbols laid =
     (frame : Frame) (frames : List Frame) → frames_of whole.procedures ≡ frame ∷ frames → TableReads object symbols laid (frame ∷ frames)
