@@ -19,3 +19,12 @@ readelf -rW reader | grep -Eq 'R_X86_64_COPY .* also ' && echo 'ok   the reader 
 ! gcc -B"$gcc_as" -c -x assembler none.s -o none.o 2>said || exit 1
 "$gcc_as/as" --64 -o none.o none.s 2>said || status=$?
 [ "$status" -eq 3 ] && grep -q 'cannot be read' said && echo 'ok   a source that cannot be read is told'
+[ "$(cat said)" = 'as: none.s cannot be read' ] && echo 'ok   its name is told'
+mkdir parts
+echo nop >parts/there.inc
+printf '.include "there.inc"\n' >includes.s
+"$gcc_as/as" -I none -I parts -o includes.o includes.s 2>said || status=$?
+grep -q '^as: there.inc, included by includes.s, is in parts' said && echo 'ok   a file that is in a folder of -I is named, with the folder'
+echo nop >one.s
+"$gcc_as/as" -o none/one.o one.s 2>said || status=$?
+[ "$status" -eq 4 ] && grep -q '^as: none/one.o' said && echo 'ok   an object that cannot be written is named'
