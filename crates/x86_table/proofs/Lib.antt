@@ -5,4 +5,5 @@ mod Peeling
 mod FieldBytes
 mod RowHeads
 mod OneReading
+mod HeadOrder
 mod Lengths

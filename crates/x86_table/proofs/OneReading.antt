@@ -26,7 +26,7 @@ from_row r s (t ∷ rows) zero h e =
     rw (← same) (not-true (share_head r t) p.0)
 from_row r s (t ∷ rows) (suc j) h e = from_row r s rows j (and_parts (not (share_head r t)) (is_apart_from r rows) h).1 e
 
-in_order : (r s : Row) (rows : List Row) (i j : ℕ) → all_apart rows ≡ true → i < j → slice_get rows i ≡ Some r → slice_get rows j ≡ Some s → share_head r s ≡ false
+pub in_order : (r s : Row) (rows : List Row) (i j : ℕ) → all_apart rows ≡ true → i < j → slice_get rows i ≡ Some r → slice_get rows j ≡ Some s → share_head r s ≡ false
 in_order r s [] i j h lt e f = cc
 in_order r s (t ∷ rows) i zero h lt e f = absurd (omega arith)
 in_order r s (t ∷ rows) zero (suc j) h lt e f =

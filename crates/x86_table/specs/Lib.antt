@@ -6,5 +6,6 @@ pub mod Fits
 pub mod Reads
 pub mod WorkedReadings
 pub mod Heads
+pub mod Leads
 pub mod WorkedWrites
 pub mod WorkedOrder

@@ -3,6 +3,7 @@
 ghost use Rattle.std.specs.Prelude.{IsTrue};
 ghost use Rattle.x86_table.specs.Rows.{the_rows};
 ghost use Rattle.x86_table.specs.Heads.{all_apart, all_stand};
+ghost use Rattle.x86_table.specs.Leads.{LeadsInOrder, FieldsAreNarrow, HeadsTellRows};
 ghost use Rattle.x86_table.specs.Reads.{ReadsOneWay, InstructionLength};
 ghost use Rattle.x86_table.specs.Fits.{FieldsHaveBytes};
 ghost use Rattle.x86_table.specs.WorkedReadings.{WorkedReadings};
@@ -37,6 +38,22 @@ pub fn instruction_length()
 /// Fields that fit a row of the table have bytes.
 pub fn fields_have_bytes()
     ensures { FieldsHaveBytes }
+{}
+
+/// Each byte before an opcode has the rank of its place, and the opcode is none of them, for all fields that
+/// fit a row of the table.
+pub fn leads_in_order()
+    ensures { LeadsInOrder }
+{}
+
+/// Registers have four bits, of which REX has one, in fields that fit a row.
+pub fn fields_are_narrow()
+    ensures { FieldsAreNarrow }
+{}
+
+/// Rows of the table that share a head are one.
+pub fn heads_tell_rows()
+    ensures { HeadsTellRows }
 {}
 
 /// What some instructions write, by the Intel manual.

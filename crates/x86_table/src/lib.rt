@@ -15,8 +15,8 @@ pub use forms::{
     StoreKind, Words,
 };
 pub use laws::{
-    fields_have_bytes, instruction_length, opcodes_stand, read_one_way, rows_are_apart,
-    worked_order, worked_readings, worked_writes,
+    fields_are_narrow, fields_have_bytes, heads_tell_rows, instruction_length, leads_in_order,
+    opcodes_stand, read_one_way, rows_are_apart, worked_order, worked_readings, worked_writes,
 };
 pub use parts::{Parts, Place, Width};
 pub use rex::rex_bits;
