@@ -8,6 +8,7 @@ mod operators;
 mod parsing;
 mod showing;
 mod spelling;
+mod uncounted;
 
 pub use laws::{
     faults_of_an_expression, leaves_are_single, one_tree, read_is_written, shown_is_read,
@@ -16,5 +17,6 @@ pub use laws::{
 pub use leaves::{between_quotes, character_code, is_symbol_name};
 pub use numbers::{all_digits, decimal_number, spelled_number};
 pub use operators::{closes, level_of, opens, operator_from, operator_of, prefix_of};
-pub use parsing::{parse, parse_front};
+pub use parsing::{counted_parse, counted_parse_front};
 pub use showing::{Piece, Shown, shown_text};
+pub use uncounted::{parse, parse_front};
