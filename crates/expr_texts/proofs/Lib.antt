@@ -11,6 +11,8 @@ mod Marks
 mod WrittenIsRead
 mod ReadIsWritten
 mod GrammarLaws
+mod PartLemmas
+mod PartCounts
 mod FailsIsRefused
 mod RefusedFails
 mod ShownFolds

@@ -1,4 +1,5 @@
 -- The definitions that contracts cite, in reading order.
+pub mod Parts
 pub mod Numbers
 pub mod Operators
 pub mod Leaves

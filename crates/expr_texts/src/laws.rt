@@ -1,9 +1,11 @@
-//! What holds of the texts and trees of all expressions.
+//! What holds of the texts and trees of all expressions, and of all folds over them.
 
-ghost use Rattle.std.specs.Prelude.{◌≡◌, ℕ, true, false, List, Ok};
+ghost use Rattle.std.specs.Prelude.{◌≡◌, ◌≤◌, ◌+◌, ℕ, true, false, List, Ok, length};
 ghost use Rattle.std.specs.List.{list_all};
 ghost use Rattle.asm_base.specs.Tokens.{SpelledToken, tokens_of};
 ghost use Rattle.asm_expr.specs.Trees.{Tree, height};
+ghost use Rattle.asm_expr.specs.Folds.{Folds};
+ghost use Rattle.expr_texts.specs.Parts.{EachCall, RisesBy, RisesByAtMost, parts};
 ghost use Rattle.expr_texts.specs.Leaves.{leaf_of};
 ghost use Rattle.expr_texts.specs.Reading.{ReadTree, reading_of};
 ghost use Rattle.expr_texts.specs.Grammar.{IsTextOf, IsFoundIn, IsReadAs, operator_follows};
@@ -12,6 +14,7 @@ ghost use Rattle.asm_expr.specs.declared.faults.ExprCause.{ExprCause};
 ghost use Rattle.expr_texts.specs.Shown.{is_byte, IsShowable, IsReadBack};
 
 use asm_base::one_value;
+use asm_expr::ExprFold;
 
 /// A text of a tree is read as that tree, whatever stands before it, and whatever stands behind it
 /// that is no operator.
@@ -39,6 +42,33 @@ pub fn one_tree()
 #[tactic(auto, using(crate::proofs::LeafLemmas::leaf_height))]
 pub fn leaves_are_single()
     ensures { (token : SpelledToken) (tree : Tree) → leaf_of token ≡ Ok tree → height tree ≡ 1 }
+{}
+
+/// A fold calls its visitor once for each part of the tree: a measure of the visitor that each call
+/// raises by one is raised by the number of parts, and one that a call raises by one at most by no
+/// more.
+pub fn each_part_counts_once<V: ExprFold>()
+    ensures exactly { (count : V → ℕ)
+        → EachCall V.num_gives V.name_gives V.here_gives V.unary_gives V.binary_gives
+        (RisesBy count 1)
+        → (tree : Tree) (first : V) (answer : V.Out) (last : V)
+        → Folds V.num_gives V.name_gives V.here_gives V.unary_gives V.binary_gives
+        tree first answer last → RisesBy count (parts tree) first last }
+    ensures at_most { (count : V → ℕ)
+        → EachCall V.num_gives V.name_gives V.here_gives V.unary_gives V.binary_gives
+        (RisesByAtMost count 1)
+        → (tree : Tree) (first : V) (answer : V.Out) (last : V)
+        → Folds V.num_gives V.name_gives V.here_gives V.unary_gives V.binary_gives
+        tree first answer last → RisesByAtMost count (parts tree) first last }
+{}
+
+/// A tree has no more parts than its text has tokens, and than the tokens that it was read from.
+#[tactic(auto, using(crate::proofs::PartCounts::text_parts, crate::proofs::PartCounts::found_parts))]
+pub fn parts_are_few()
+    ensures text { (tree : Tree) (text : List SpelledToken)
+        → IsTextOf tree text → parts tree ≤ length text }
+    ensures found { (tokens : List SpelledToken) (at : ℕ) (found : ReadTree)
+        → IsFoundIn tokens at found → at + parts found.tree ≤ found.next }
 {}
 
 /// The reading of an expression has a fault exactly where the expression fails for it: at the first

@@ -11,8 +11,8 @@ mod spelling;
 mod uncounted;
 
 pub use laws::{
-    faults_of_an_expression, leaves_are_single, one_tree, read_is_written, shown_is_read,
-    written_is_read,
+    each_part_counts_once, faults_of_an_expression, leaves_are_single, one_tree, parts_are_few,
+    read_is_written, shown_is_read, written_is_read,
 };
 pub use leaves::{between_quotes, character_code, is_symbol_name};
 pub use numbers::{all_digits, decimal_number, spelled_number};
