@@ -14,6 +14,7 @@ mod Moves
 mod LineFeeds
 mod TokenSteps
 mod OwnLengths
+mod Offsets
 mod Cuts
 mod OnePass
 mod Skipping

@@ -1,5 +1,5 @@
 -- What stands next in a source: a statement as its tokens, the end, or a fault of its lines.
-use Rattle.std.specs.Prelude.{◌≡◌, ℕ, ◌<◌, ◌≤◌, List, [], ◌∷◌, length, take, map, Option, Some, None, Ok, Err}
+use Rattle.std.specs.Prelude.{◌≡◌, ℕ, ◌-◌, ◌<◌, ◌≤◌, List, [], ◌∷◌, length, take, map, Option, Some, None, Ok, Err}
 use Rattle.std.specs.List.{filter_map}
 use Rattle.asm_base.specs.Tokens.{SpelledToken, spelled, tokens_of}
 use Rattle.asm_base.specs.declared.tokens.Token.{Token}
@@ -59,6 +59,12 @@ StandsNext source at read (Statement line next there count) =
     (count ≤ length read) × IsNext source at (take count read) line next there
 StandsNext source at read End = IsEnd source at
 StandsNext source at read Faulty = (found : Found) × (found_left source at ≡ Some found)
+
+-- how many bytes are passed to find what stands next: up to the end of the source where no statement does
+abbrev pub bytes_passed : List ℕ → ℕ → NextStatement → ℕ
+bytes_passed source from (Statement line next there count) = next - from
+bytes_passed source from End = length source - from
+bytes_passed source from Faulty = length source - from
 
 -- the lines of a text have no fault: its statements are those that are left at its beginning
 pub record HasNoLineFault (file : ℕ) (text : List ℕ) : Type 0 where

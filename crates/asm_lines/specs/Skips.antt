@@ -41,6 +41,12 @@ pub record HasSameFaults (source : List ℕ) (from : ℕ) (to : Point) : Type 0 
   pub within : to.at ≤ length source
   pub more : from < to.at
 
+-- the offset up to which what stands next is passed
+abbrev pub passed_up_to : List ℕ → NextPassed → ℕ
+passed_up_to source (Statement to) = to.at
+passed_up_to source End = length source
+passed_up_to source Faulty = length source
+
 -- what stands next is passed, and no fault with it; or nothing is left, or the lines have a fault
 abbrev pub PassesNext : List ℕ → ℕ → NextPassed → Type 0
 PassesNext source from (Statement to) = HasSameFaults source from to

@@ -1,5 +1,5 @@
 -- The tokens of the statement that begins a text, found in one pass over its bytes.
-use Rattle.std.specs.Prelude.{◌≡◌, ℕ, zero, suc, ◌+◌, ◌-◌, ◌<◌, ◌≤◌, Bool, true, false, not, ◌&&◌, List, [], ◌∷◌, length, drop, take, map, Option, Some, None, if◌then◌else◌}
+use Rattle.std.specs.Prelude.{◌≡◌, ℕ, zero, suc, ◌+◌, ◌-◌, ◌<◌, ◌≤◌, Bool, true, false, not, ◌&&◌, List, [], ◌∷◌, ◌++◌, length, drop, take, map, Option, Some, None, if◌then◌else◌}
 use Rattle.asm_base.specs.Pieces.{Piece, is_space, ends_statement}
 use Rattle.asm_base.specs.Dividing.{piece_kind, piece_length}
 use Rattle.asm_base.specs.Tokens.{SpelledToken, spelled, token_kind, token_length, first_token}
@@ -45,13 +45,41 @@ pub record IsReadWhole (source : List ℕ) (begin : ℕ) (read : List Token) (ne
   pub within : next ≤ length source
   pub more : begin < next
 
+-- the statement that begins at this offset is read up to another, which stands on the line, to the first so many of the tokens
+pub record IsReadTo (source : List ℕ) (begin : ℕ) (read : List Token) (count at line_there : ℕ) : Type 0 where
+  pub within : at ≤ length source
+  pub begins : begin + count ≤ at
+  pub room : count ≤ length read
+  pub line : line_there ≡ line_of source at
+  pub tokens : map spelled (take count read) ++ first_tokens_from 0 (at - begin) (drop at source) ≡ first_tokens_from 0 0 (drop begin source)
+  pub later : later_pieces (pieces_at source at) ≡ later_pieces (pieces_at source begin)
+  pub closed : all_close (first_interval (pieces_at source at)) ≡ all_close (first_interval (pieces_at source begin))
+  pub short : begin + own_length_at source begin ≤ at + own_length_at source at
+
+-- the statement is read to all these tokens and one more, wherever they stand
+abbrev pub IsReadWith : List ℕ → ℕ → List Token → ℕ → ℕ → Token → Type 0
+IsReadWith source begin tokens at line token = (read : List Token) → length tokens < length read
+    → take (length tokens + 1) read ≡ tokens ++ token ∷ [] → IsReadTo source begin read (length tokens + 1) at line
+
 -- the statement that begins at this offset is read to the first so many of these tokens, or has a piece that does not
--- close; or there are too few of them
+-- close; or there are too few of them, and it is read to one more
 abbrev pub ReadsTokens : List ℕ → ℕ → List Token → ReadStatement → Type 0
 ReadsTokens source begin tokens (Whole next line count) =
     (count ≤ length tokens) × IsReadWhole source begin (take count tokens) next line
-ReadsTokens source begin tokens Full = begin + length tokens < length source
+ReadsTokens source begin tokens (Full next line token) = IsReadWith source begin tokens next line token
 ReadsTokens source begin tokens Unclosed = all_close (first_interval (pieces_at source begin)) ≡ false
+
+-- the offset up to which the statement is read
+abbrev pub read_up_to : List ℕ → ReadStatement → ℕ
+read_up_to source (Whole next line count) = next
+read_up_to source (Full next line token) = next
+read_up_to source Unclosed = length source
+
+-- all pieces of the statement that begins at this offset close, and it ends before another
+pub record EndsAt (source : List ℕ) (begin next : ℕ) : Type 0 where
+  pub later : pieces_at source next ≡ later_pieces (pieces_at source begin)
+  pub closed : all_close (first_interval (pieces_at source begin)) ≡ true
+  pub within : next ≤ length source
 
 -- what is known of the statement that begins at this offset, once all of it is passed
 pub record IsPassed (source : List ℕ) (begin : ℕ) (passed : Passed) : Type 0 where

@@ -7,7 +7,8 @@ ghost use Rattle.asm_lines.specs.Scan.{EndsBy, pieces_at, scan_of, nothing_scann
 
 use crate::faults::{Found, LineCause, earlier};
 use crate::line_numbers::line_behind;
-use asm_base::{PieceKind, first_piece, plain_length};
+use asm_base::{PieceKind, Steps, first_piece, plain_length};
+use std::sync::ledger::Ledger;
 
 /// The most bytes that a statement has.
 pub(crate) const LONGEST_STATEMENT: usize = 65536;
@@ -174,8 +175,14 @@ fn plain_run(start: usize, length: usize, line: u32) -> PieceAt
     }
 }
 
-/// Reads the first interval from an offset on, which stands on the line.
-pub(crate) fn first_interval(source: &[u8], from: usize, line: u32) -> Interval
+/// Reads the first interval from an offset on, which stands on the line. A step is a look at a piece
+/// or at a run of plain bytes.
+pub(crate) fn first_interval<L: Ledger>(
+    source: &[u8],
+    from: usize,
+    line: u32,
+    steps: &mut Steps<L>,
+) -> Interval
     requires within { from < length source.now }
     requires line { line ≡ line_of source.now from }
     ensures scan { result.scan
@@ -186,6 +193,7 @@ pub(crate) fn first_interval(source: &[u8], from: usize, line: u32) -> Interval
     ensures span { EndsBy result.next result.scan.span }
     ensures next { from < result.next }
     ensures within { result.next ≤ length source.now }
+    ensures looks { from + steps.new ≤ steps.old + result.next }
 {
     let mut scan = Scan {
         span: None,
@@ -194,6 +202,7 @@ pub(crate) fn first_interval(source: &[u8], from: usize, line: u32) -> Interval
     let mut at = from;
     let mut line = line;
     while let Some((first, rest)) = source[at..].split_first() {
+        steps.tick();
         // Most bytes are pieces of their own: a run of them is taken at once.
         let plain = plain_length(&source[at..]);
         if plain > 0 {

@@ -4,22 +4,22 @@ use Rattle.asm_lines.specs.StatementTokens.{own_length_at}
 use Rattle.asm_lines.proofs.Skipping.{next_end, next_long, next_unclosed, same_faults}
 use Rattle.asm_lines.proofs.cursors.pass_next.Goals as goal
 
-pub returns-then-point-source : goal.returns-then-point-source
-returns-then-point-source c = (next_end c.args.source.now c.args.from c.in-Some.point c.in-Some.ensures c.if-point-source.true).faults
+pub returns-then-point-source-clause-passes : goal.returns-then-point-source-clause-passes
+returns-then-point-source-clause-passes g c = (next_end c.args.source.now c.args.from c.in-Some.point c.in-Some.ensures.skips c.if-point-source.true).faults
 
-pub returns-in_default-pass_statement : goal.returns-in_default-pass_statement
-returns-in_default-pass_statement c = next_unclosed c.args.source.now c.args.from c.in-Some.point c.in-Some.ensures c.in_default-pass_statement.ensures
+pub returns-in_default-pass_statement-clause-passes : goal.returns-in_default-pass_statement-clause-passes
+returns-in_default-pass_statement-clause-passes g c = next_unclosed c.args.source.now c.args.from c.in-Some.point c.in-Some.ensures.skips c.in_default-pass_statement.ensures.passes
 
-pub returns-then-passed-gt-LONGEST_STATEMENT : goal.returns-then-passed-gt-LONGEST_STATEMENT
-returns-then-passed-gt-LONGEST_STATEMENT c =
-    let own = sym c.in-Some-pass_statement.ensures.own in
+pub returns-then-passed-gt-LONGEST_STATEMENT-clause-passes : goal.returns-then-passed-gt-LONGEST_STATEMENT-clause-passes
+returns-then-passed-gt-LONGEST_STATEMENT-clause-passes g c =
+    let own = sym c.in-Some-pass_statement.ensures.passes.own in
     let long : 65536 < own_length_at c.args.source.now c.in-Some.point.at = omega (arith, own) in
-    next_long c.args.source.now c.args.from c.in-Some.point c.in-Some.ensures c.if-point-source.false long
+    next_long c.args.source.now c.args.from c.in-Some.point c.in-Some.ensures.skips c.if-point-source.false long
 
-pub returns : goal.returns
-returns c =
-    let known = c.in-Some-pass_statement.ensures in
-    let reached = c.in-Some.ensures in
+pub returns-clause-passes : goal.returns-clause-passes
+returns-clause-passes g c =
+    let known = c.in-Some-pass_statement.ensures.passes in
+    let reached = c.in-Some.ensures.skips in
     let own = sym known.own in
     let fits : own_length_at c.args.source.now c.in-Some.point.at ≤ 65536 = omega (arith, own) in
     record {

@@ -13,8 +13,8 @@ use Rattle.asm_lines.proofs.Moves.{never_closes, over_blank, over_comment, over_
 use Rattle.asm_lines.proofs.TokenSteps.{blank_one, feed_one, one_length, own_step, own_whole, own_with_token, semicolon_one, token_on_line}
 use Rattle.asm_lines.proofs.passing.pass_statement.Goals as goal
 
-pub returns-in-LineEnd : goal.returns-in-LineEnd
-returns-in-LineEnd c =
+pub returns-in-LineEnd-clause-passes : goal.returns-in-LineEnd-clause-passes
+returns-in-LineEnd-clause-passes g c =
     let s = c.args.source.now in
     let at = c.loop-at.at in
     let front = drop_more s at 0 (omega arith) in
@@ -30,8 +30,8 @@ returns-in-LineEnd c =
       more = omega arith;
     }
 
-pub returns-in-StatementEnd : goal.returns-in-StatementEnd
-returns-in-StatementEnd c =
+pub returns-in-StatementEnd-clause-passes : goal.returns-in-StatementEnd-clause-passes
+returns-in-StatementEnd-clause-passes g c =
     let s = c.args.source.now in
     let at = c.loop-at.at in
     let front = drop_more s at 0 (omega arith) in
@@ -49,7 +49,7 @@ returns-in-StatementEnd c =
     }
 
 pub loop-at-preserved-in-Blank : goal.loop-at-preserved-in-Blank
-loop-at-preserved-in-Blank c =
+loop-at-preserved-in-Blank g c =
     let s = c.args.source.now in
     let at = c.loop-at.at in
     let front = drop_more s at 0 (omega arith) in
@@ -59,6 +59,7 @@ loop-at-preserved-in-Blank c =
     record {
       within = omega arith;
       begins = omega (arith, known.begins);
+      looks = omega (arith, known.looks);
       line = line_over_piece c.one_division.ensures.some s _ _ _ 1 _ front (ap is_on_line kind) (one_length _ _ piece.Blank kind (blank_one _)) known.line;
       later = sym move.later ∙ known.later;
       closed = sym move.closed ∙ known.closed;
@@ -66,7 +67,7 @@ loop-at-preserved-in-Blank c =
     }
 
 pub loop-at-preserved-in-LineComment : goal.loop-at-preserved-in-LineComment
-loop-at-preserved-in-LineComment c =
+loop-at-preserved-in-LineComment g c =
     let s = c.args.source.now in
     let at = c.loop-at.at in
     let front = drop_more s at 0 (omega arith) in
@@ -77,6 +78,7 @@ loop-at-preserved-in-LineComment c =
     record {
       within = omega (arith, fits.1);
       begins = omega (arith, known.begins);
+      looks = omega (arith, known.looks, fits.0);
       line = line_over_piece c.one_division.ensures.some s _ _ _ _ _ front (ap is_on_line stands.0) stands.1 known.line;
       later = sym move.later ∙ known.later;
       closed = sym move.closed ∙ known.closed;
@@ -84,7 +86,7 @@ loop-at-preserved-in-LineComment c =
     }
 
 pub loop-at-preserved-in-BlockComment : goal.loop-at-preserved-in-BlockComment
-loop-at-preserved-in-BlockComment c =
+loop-at-preserved-in-BlockComment g c =
     let s = c.args.source.now in
     let at = c.loop-at.at in
     let front = drop_more s at 0 (omega arith) in
@@ -97,6 +99,7 @@ loop-at-preserved-in-BlockComment c =
     record {
       within = omega (arith, fits.1);
       begins = omega (arith, known.begins);
+      looks = omega (arith, known.looks, fits.0);
       line = line_more s at c.in-BlockComment.length c.loop-at.line _ known.line (c.line_behind-line.ensures ∙ part);
       later = sym move.later ∙ known.later;
       closed = sym move.closed ∙ known.closed;
@@ -104,7 +107,7 @@ loop-at-preserved-in-BlockComment c =
     }
 
 pub loop-at-preserved : goal.loop-at-preserved
-loop-at-preserved c =
+loop-at-preserved g c =
     let s = c.args.source.now in
     let at = c.loop-at.at in
     let front = drop_more s at 0 (omega arith) in
@@ -119,21 +122,22 @@ loop-at-preserved c =
     record {
       within = omega (arith, fits.1);
       begins = omega (arith, known.begins);
+      looks = omega (arith, known.looks, fits.0);
       line = line_over_token c.one_division.ensures.some s _ _ _ _ _ front (token_on_line _ stands.0) (token_run s _ _ _ _ front stands.0 stands.2) known.line;
       later = sym move.later ∙ known.later;
       closed = sym move.closed ∙ known.closed;
       owns = own_with_token _ _ _ _ _ owned move.owns known.owns;
     }
 
-pub returns-in-Unclosed : goal.returns-in-Unclosed
-returns-in-Unclosed c =
+pub returns-in-Unclosed-clause-passes : goal.returns-in-Unclosed-clause-passes
+returns-in-Unclosed-clause-passes g c =
     let s = c.args.source.now in
     let at = c.loop-at.at in
     let front = drop_more s at 0 (omega arith) in
     sym c.loop-at.invariant.closed ∙ never_closes s _ _ _ front c.in-Unclosed.ensures.stands
 
-pub returns : goal.returns
-returns c =
+pub returns-clause-passes : goal.returns-clause-passes
+returns-clause-passes g c =
     let s = c.args.source.now in
     let past : length s ≤ c.loop-at.at = omega arith in
     let stop = stops_behind s c.loop-at.at past in

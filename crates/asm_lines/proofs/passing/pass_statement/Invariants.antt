@@ -7,9 +7,10 @@ use Rattle.asm_lines.specs.StatementTokens.{all_close, own_behind}
 use Rattle.asm_lines.proofs.passing.pass_statement.Given as goal
 
 abbrev pub invariant-loop-at : goal.invariant-loop-at
-invariant-loop-at l = record {
+invariant-loop-at g l = record {
   within : l.at ≤ length l.source;
   begins : l.begin + l.comments ≤ l.at;
+  looks : l.begin + l.steps ≤ l.fn.steps + l.at;
   line : l.line ≡ line_of l.source l.at;
   later : later_pieces (pieces_at l.source l.at) ≡ later_pieces (pieces_at l.source l.begin);
   closed : all_close (first_interval (pieces_at l.source l.at)) ≡ all_close (first_interval (pieces_at l.source l.begin));
@@ -17,4 +18,4 @@ invariant-loop-at l = record {
 }
 
 abbrev pub decreases-loop-at : goal.decreases-loop-at
-decreases-loop-at l = length l.source - l.at
+decreases-loop-at g l = length l.source - l.at

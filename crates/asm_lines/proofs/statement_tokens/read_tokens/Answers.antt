@@ -1,11 +1,13 @@
 -- A space, a token or the end of the statement comes next.
-use Rattle.std.proofs.Common.{◌≡◌, ◌+◌, ◌-◌, ◌<◌, ◌≤◌, length, take, drop, min, sym, ap, ◌∙◌, refl, arith}
+use Rattle.std.proofs.Common.{◌≡◌, ◌+◌, ◌-◌, ◌<◌, ◌≤◌, ◌++◌, length, map, take, drop, min, sym, ap, subst, ◌∙◌, refl, arith}
 use Rattle.std.specs.Prelude.{count_by}
-use Rattle.std.proofs.lemmas.List.{drop_more, length-drop, length-set, take_more_set}
+use Rattle.std.proofs.lemmas.List.{drop_more, length-drop, length-set, take_all, take_more_set}
 use Rattle.asm_base.specs.ByteClasses.{is_feed}
 use Rattle.asm_base.specs.Pieces.{is_space, ends_statement}
 use Rattle.asm_base.specs.declared.pieces.PieceKind.TheVariants as piece
+use Rattle.asm_base.specs.Tokens.{spelled}
 use Rattle.asm_lines.specs.LineNumbers.{last_line}
+use Rattle.asm_lines.specs.StatementTokens.{first_tokens_from}
 use Rattle.asm_lines.proofs.Pieces.{line_more}
 use Rattle.asm_lines.proofs.TokenPieces.{token_run, pieces_of_token}
 use Rattle.asm_lines.proofs.LineFeeds.{is_on_line, line_over_feed, line_over_piece, line_over_token}
@@ -13,8 +15,24 @@ use Rattle.asm_lines.proofs.Moves.{never_closes, no_tokens, no_tokens_left, over
 use Rattle.asm_lines.proofs.TokenSteps.{all_read, blank_one, feed_one, one_length, semicolon_one, short_end, short_step, space_read_at, token_read_at, token_on_line}
 use Rattle.asm_lines.proofs.statement_tokens.read_tokens.Goals as goal
 
+pub loop-at-init : goal.loop-at-init
+loop-at-init g c =
+    let known = c.requires.read in
+    record {
+      within = known.within;
+      begins = known.begins;
+      room = known.room;
+      len = refl;
+      looks = omega arith;
+      line = known.line;
+      tokens = known.tokens;
+      later = known.later;
+      closed = known.closed;
+      short = known.short;
+    }
+
 pub returns-in-LineEnd-clause-read : goal.returns-in-LineEnd-clause-read
-returns-in-LineEnd-clause-read c =
+returns-in-LineEnd-clause-read g c =
     let s = c.args.source.now in
     let at = c.loop-at.at in
     let front = drop_more s at 0 (omega arith) in
@@ -34,7 +52,7 @@ returns-in-LineEnd-clause-read c =
     )
 
 pub returns-in-StatementEnd-clause-read : goal.returns-in-StatementEnd-clause-read
-returns-in-StatementEnd-clause-read c =
+returns-in-StatementEnd-clause-read g c =
     let s = c.args.source.now in
     let at = c.loop-at.at in
     let front = drop_more s at 0 (omega arith) in
@@ -55,7 +73,7 @@ returns-in-StatementEnd-clause-read c =
     )
 
 pub loop-at-preserved-in-Blank : goal.loop-at-preserved-in-Blank
-loop-at-preserved-in-Blank c =
+loop-at-preserved-in-Blank g c =
     let s = c.args.source.now in
     let at = c.loop-at.at in
     let front = drop_more s at 0 (omega arith) in
@@ -66,6 +84,7 @@ loop-at-preserved-in-Blank c =
     record {
       within = omega arith;
       begins = omega (arith, known.begins);
+      looks = omega (arith, known.looks);
       room = known.room;
       len = known.len;
       line = line_over_piece c.one_division.ensures.some s _ _ _ 1 _ front (ap is_on_line kind) one known.line;
@@ -76,7 +95,7 @@ loop-at-preserved-in-Blank c =
     }
 
 pub loop-at-preserved-in-LineComment : goal.loop-at-preserved-in-LineComment
-loop-at-preserved-in-LineComment c =
+loop-at-preserved-in-LineComment g c =
     let s = c.args.source.now in
     let at = c.loop-at.at in
     let front = drop_more s at 0 (omega arith) in
@@ -87,6 +106,7 @@ loop-at-preserved-in-LineComment c =
     record {
       within = omega (arith, fits.1);
       begins = omega (arith, known.begins);
+      looks = omega (arith, known.looks, fits.0);
       room = known.room;
       len = known.len;
       line = line_over_piece c.one_division.ensures.some s _ _ _ _ _ front (ap is_on_line stands.0) stands.1 known.line;
@@ -97,7 +117,7 @@ loop-at-preserved-in-LineComment c =
     }
 
 pub loop-at-preserved-in-BlockComment : goal.loop-at-preserved-in-BlockComment
-loop-at-preserved-in-BlockComment c =
+loop-at-preserved-in-BlockComment g c =
     let s = c.args.source.now in
     let at = c.loop-at.at in
     let front = drop_more s at 0 (omega arith) in
@@ -110,6 +130,7 @@ loop-at-preserved-in-BlockComment c =
     record {
       within = omega (arith, fits.1);
       begins = omega (arith, known.begins);
+      looks = omega (arith, known.looks, fits.0);
       room = known.room;
       len = known.len;
       line = line_more s at c.in-BlockComment.length c.loop-at.line _ known.line (c.line_behind-line.ensures ∙ part);
@@ -120,7 +141,7 @@ loop-at-preserved-in-BlockComment c =
     }
 
 pub loop-at-preserved : goal.loop-at-preserved
-loop-at-preserved c =
+loop-at-preserved g c =
     let s = c.args.source.now in
     let at = c.loop-at.at in
     let front = drop_more s at 0 (omega arith) in
@@ -137,6 +158,7 @@ loop-at-preserved c =
     record {
       within = omega (arith, fits.1);
       begins = omega (arith, known.begins, fits.0);
+      looks = omega (arith, known.looks, fits.0);
       room = rw long (omega arith);
       len = long ∙ known.len;
       line = line_over_token c.one_division.ensures.some s _ _ _ _ _ front (token_on_line _ stands.0) (token_run s _ _ _ _ front stands.0 stands.2) known.line;
@@ -147,14 +169,14 @@ loop-at-preserved c =
     }
 
 pub returns-in-Unclosed-clause-read : goal.returns-in-Unclosed-clause-read
-returns-in-Unclosed-clause-read c =
+returns-in-Unclosed-clause-read g c =
     let s = c.args.source.now in
     let at = c.loop-at.at in
     let front = drop_more s at 0 (omega arith) in
     sym c.loop-at.invariant.closed ∙ never_closes s _ _ _ front c.in-Unclosed.ensures.stands
 
 pub returns-clause-read : goal.returns-clause-read
-returns-clause-read c =
+returns-clause-read g c =
     let s = c.args.source.now in
     let past : length s ≤ c.loop-at.at = omega arith in
     let stop = stops_behind s c.loop-at.at past in
@@ -170,3 +192,29 @@ returns-clause-read c =
         more = omega arith;
       },
     )
+
+pub returns-then-count-slots-clause-read : goal.returns-then-count-slots-clause-read
+returns-then-count-slots-clause-read g c = λ read room put.
+    let s = c.args.source.now in
+    let at = c.loop-at.at in
+    let front = drop_more s at 0 (omega arith) in
+    let n = c.in-Token.length in
+    let stands = c.in-Token.ensures.stands in
+    let fits = c.in-Token.ensures.fits in
+    let parts = pieces_of_token s _ _ _ _ front stands.0 stands.2 fits.0 (omega (arith, fits.1, length-drop (at + 1) s)) in
+    let move = over_token s _ _ 0 0 0 fits.0 parts in
+    let known = c.loop-at.invariant in
+    let all : take c.loop-at.count c.loop-at.slots ≡ c.loop-at.slots = take_all c.loop-at.count c.loop-at.slots (omega arith) in
+    let count : at + n - at ≡ n = omega arith in
+    let part : take (at + n - at) (drop at s) ≡ take n (drop at s) = ap (λ k. take k (drop at s)) count in
+    let made = subst (λ slots. map spelled slots ++ first_tokens_from 0 (at - c.args.begin) (drop at s) ≡ first_tokens_from 0 0 (drop c.args.begin s)) all known.tokens in
+    record {
+      within = omega (arith, fits.1);
+      begins = omega (arith, known.begins, fits.0);
+      room = omega (arith, room);
+      line = line_over_token c.one_division.ensures.some s _ _ _ _ _ front (token_on_line _ stands.0) (token_run s _ _ _ _ front stands.0 stands.2) known.line;
+      tokens = token_read_at c.loop-at.slots _ _ s c.args.begin at _ _ n _ (omega arith) front stands.0 stands.2 put stands.1 part refl made;
+      later = sym move.later ∙ known.later;
+      closed = sym move.closed ∙ known.closed;
+      short = omega (arith, known.short, short_step (0 + n) (0 + n) n _ _ move.owns (omega arith) (omega arith));
+    }

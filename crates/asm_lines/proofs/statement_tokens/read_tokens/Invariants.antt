@@ -8,11 +8,12 @@ use Rattle.asm_lines.specs.StatementTokens.{all_close, first_tokens_from}
 use Rattle.asm_lines.proofs.statement_tokens.read_tokens.Given as goal
 
 abbrev pub invariant-loop-at : goal.invariant-loop-at
-invariant-loop-at l = record {
+invariant-loop-at g l = record {
   within : l.at ≤ length l.source;
   begins : l.begin + l.count ≤ l.at;
   room : l.count ≤ length l.slots;
   len : length l.slots ≡ length l.fn.slots;
+  looks : l.fn.from + l.steps ≤ l.fn.steps + l.at;
   line : l.line ≡ line_of l.source l.at;
   tokens : map spelled (take l.count l.slots) ++ first_tokens_from 0 (l.at - l.begin) (drop l.at l.source) ≡ first_tokens_from 0 0 (drop l.begin l.source);
   later : later_pieces (pieces_at l.source l.at) ≡ later_pieces (pieces_at l.source l.begin);
@@ -21,4 +22,4 @@ invariant-loop-at l = record {
 }
 
 abbrev pub decreases-loop-at : goal.decreases-loop-at
-decreases-loop-at l = length l.source - l.at
+decreases-loop-at g l = length l.source - l.at
