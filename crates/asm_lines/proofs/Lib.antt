@@ -1,12 +1,12 @@
 -- The lemmas, in reading order.
 mod Pieces
+mod PlainBytes
 mod PlainRuns
 mod Scans
 mod Order
 mod Steps
 mod RunLaws
 mod Runs
-mod PlainBytes
 mod TokenPieces
 mod Fronts
 mod FirstPieces

@@ -5,36 +5,18 @@ use Rattle.std.specs.List.{prefix_len}
 use Rattle.std.specs.Option.{option_or}
 use Rattle.std.proofs.lemmas.List.{drop-drop, drop_more}
 use Rattle.std.proofs.lemmas.List.Sums.{prefix_len_passes, prefix_len-le-length, sum_by-cons}
-use Rattle.asm_base.specs.ByteClasses.{is_feed, is_blank, begins_with, line_goes_on}
+use Rattle.asm_base.specs.ByteClasses.{is_feed, is_blank}
 use Rattle.asm_base.specs.Pieces.{Piece}
-use Rattle.asm_base.specs.Dividing.{comment_kind, is_plain, piece_kind, piece_length, string_kind}
+use Rattle.asm_base.specs.Dividing.{is_plain, piece_kind, piece_length}
 use Rattle.asm_base.specs.declared.pieces.PieceKind.{PieceKind}
-use Rattle.asm_base.specs.declared.pieces.PieceKind.TheVariants.{LineFeed, Semicolon, Blank, LineComment, Character, Other}
+use Rattle.asm_base.specs.declared.pieces.PieceKind.TheVariants.{Other}
 use Rattle.asm_lines.specs.declared.faults.Found.{Found}
 use Rattle.asm_lines.specs.declared.intervals.Scan.{Scan}
 use Rattle.asm_lines.specs.declared.intervals.Span.{Span}
 use Rattle.asm_lines.specs.LineNumbers.{line_of, last_line}
 use Rattle.asm_lines.specs.Scan.{first_interval, later_pieces, pieces_at, plain_run, scan_of, scanned, with_piece}
 use Rattle.asm_lines.proofs.Pieces.{later_more, line_more, scan_more}
-
--- the tests of a byte that is none of the special ones
-kind_of_plain : (feed semicolon blank return hash slash quote double x y z : Bool) (comment quoted : PieceKind)
-    → not (feed || semicolon || blank || return || hash || slash || quote || double) ≡ true
-    → cond feed LineFeed (cond semicolon Semicolon (cond (blank || (return && x)) Blank (cond hash LineComment (cond (slash && y) comment (cond (quote && z) Character (cond double quoted Other)))))) ≡ Other
-kind_of_plain true b c d e f g h x y z comment quoted plain = cc
-kind_of_plain false true c d e f g h x y z comment quoted plain = cc
-kind_of_plain false false true d e f g h x y z comment quoted plain = cc
-kind_of_plain false false false true e f g h x y z comment quoted plain = cc
-kind_of_plain false false false false true f g h x y z comment quoted plain = cc
-kind_of_plain false false false false false true g h x y z comment quoted plain = cc
-kind_of_plain false false false false false false true h x y z comment quoted plain = cc
-kind_of_plain false false false false false false false true x y z comment quoted plain = cc
-kind_of_plain false false false false false false false false x y z comment quoted plain = refl
-
-plain_kind : (byte : ℕ) (rest : List ℕ) → is_plain byte ≡ true → piece_kind byte rest ≡ Other
-unfolding is_plain piece_kind
-plain_kind byte rest plain =
-    kind_of_plain (is_feed byte) (byte == 59) (is_blank byte) (byte == 13) (byte == 35) (byte == 47) (byte == 39) (byte == 34) (begins_with 10 rest) (begins_with 42 rest) (line_goes_on rest) (comment_kind (drop 1 rest)) (string_kind rest) plain
+use Rattle.asm_lines.proofs.PlainBytes.{plain_kind}
 
 not_feed : (feed b c d e f g h : Bool) → not (feed || b || c || d || e || f || g || h) ≡ true → feed ≡ false
 not_feed true b c d e f g h plain = cc
