@@ -111,6 +111,12 @@ pub record PassesUpTo (verdict : Verdict) (place : Place) (text : List ℕ) (fro
   pub cut : left_in place text from ≡ front ++ left_in place text until
   pub passed : PassesAll verdict before after front
 
+-- the offset up to which a search of a text looked that was to end at another
+abbrev pub sought_up_to : List ℕ → ℕ → Sought → ℕ
+sought_up_to text until (sought.Stopped stop) = stop.at
+sought_up_to text until sought.Limit = until
+sought_up_to text until sought.End = length text
+
 -- a text is searched from one offset up to another: the search ends in it, or reaches the offset, or the text's end
 abbrev pub Seeks : Verdict → Place → List ℕ → ℕ → ℕ → Search → Search → Sought → Type 0
 Seeks verdict place text from until before after (sought.Stopped stop) = StopsIn verdict place text from before after stop

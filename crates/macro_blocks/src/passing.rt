@@ -9,6 +9,8 @@ use crate::searching::{NoBranch, Search, Sought, Verdicts};
 use asm_base::{Refusal, Token};
 use macro_words::{KnowingPlacer, MacroCause, Word, verdict};
 use std::alloc::{AllocError, Global};
+use std::marker::Brand;
+use std::sync::ledger::Blank;
 
 /// Branches by what a placer knows.
 #[derive(Drop)]
@@ -44,7 +46,7 @@ impl Frame {
         ensures block { search.new.block ≡ search.old.block }
         ensures same { IsSameText self.old self.new }
     {
-        let sought = search.seek(
+        let sought = search.seek_alone::<V, Brand>(
             alloc,
             verdicts,
             self.text.as_bytes(),
@@ -52,6 +54,7 @@ impl Frame {
             self.at,
             self.line,
             until,
+            Blank::new(1),
         )?;
         if let Sought::Stopped(stop) = sought {
             self.at = stop.at;

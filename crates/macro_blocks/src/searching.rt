@@ -1,6 +1,6 @@
 //! The search for the statement that ends a block or a branch, statement by statement.
 
-ghost use Rattle.std.specs.Prelude.{◌≡◌, ◌+◌, ◌-◌, ◌<◌, ◌≤◌, ◌^◌, List, [], Bool, Option, Result, Ok, false, true, map, drop, length, IfOk, OnOk};
+ghost use Rattle.std.specs.Prelude.{◌≡◌, ◌+◌, ◌*◌, ◌-◌, ◌<◌, ◌≤◌, ◌^◌, List, [], Bool, Option, Result, Ok, false, true, map, drop, length, IfOk, OnOk};
 ghost use Rattle.asm_base.specs.Refusals.{Returns};
 ghost use Rattle.asm_base.specs.Tokens.{SpelledToken, spelled};
 ghost use Rattle.asm_lines.specs.LineNumbers.{line_of};
@@ -8,15 +8,16 @@ ghost use Rattle.macro_words.specs.Statements.{behind_labels};
 ghost use Rattle.macro_words.specs.declared.words.Word.{Word};
 ghost use Rattle.macro_words.specs.declared.causes.MacroCause.{MacroCause};
 ghost use Rattle.macro_blocks.specs.Places.{is_whole};
-ghost use Rattle.macro_blocks.specs.Searches.{StopsBy, EndsBy, IsPassed, PassesOne, Seeks};
+ghost use Rattle.macro_blocks.specs.Searches.{StopsBy, EndsBy, IsPassed, PassesOne, Seeks, sought_up_to};
 
 use crate::blocks::Block;
 use crate::bodies::push_statement;
 use crate::places::Place;
-use asm_base::{Pos, Refusal, Token};
-use asm_lines::{NextStatement, next_statement};
+use asm_base::{Pos, Refusal, Steps, Token};
+use asm_lines::{NextStatement, counted_next_statement};
 use macro_words::{MacroCause, Word, labels_length, word_of_head};
 use std::alloc::{AllocError, Global};
+use std::sync::ledger::{Blank, Ledger};
 
 /// What says whether a branch that is chosen begins at a statement.
 pub(crate) trait Verdicts {
@@ -200,8 +201,9 @@ impl Search {
     }
 
     /// Searches a text, whose statements stand here and whose lines have no fault, from one offset up to another, if that is one of a
-    /// statement.
-    pub(crate) fn seek<V: Verdicts>(
+    /// statement. A step is a look at what stands at an offset of the text: at most three for each byte from the one offset on, and
+    /// one more.
+    fn seek<V: Verdicts, L: Ledger>(
         &mut self,
         alloc: Global,
         verdicts: &V,
@@ -210,6 +212,7 @@ impl Search {
         from: usize,
         line: u32,
         until: usize,
+        steps: &mut Steps<L>,
     ) -> Result<Sought, AllocError>
         requires within { from ≤ length source.now }
         requires line { line ≡ line_of source.now from }
@@ -219,12 +222,15 @@ impl Search {
             self.old self.new sought) }
         ensures few { IfOk result (λ _. self.new.deep ≤ self.old.deep + length source.now) }
         ensures block { self.new.block ≡ self.old.block }
+        ensures looks { steps.new ≤ steps.old + 3 * (length source.now - from) + 1 }
+        ensures sought { IfOk result (λ sought.
+            3 * from + steps.new ≤ steps.old + 3 * sought_up_to source.now until sought + 1) }
     {
         let mut tokens = Vec::new(alloc);
         let mut at = from;
         let mut line = line;
         while at != until {
-            match next_statement(source, at, line, &mut tokens)? {
+            match counted_next_statement(source, at, line, &mut tokens, steps)? {
                 NextStatement::Statement(here, next, there, count) => {
                     let pos = place.pos_in(here);
                     match self.pass(verdicts, &tokens.as_slice()[..count])? {
@@ -247,5 +253,35 @@ impl Search {
             }
         }
         Ok(Sought::Limit)
+    }
+
+    /// Searches a text so, with a count of steps of its own.
+    pub(crate) fn seek_alone<V: Verdicts, L: Ledger>(
+        &mut self,
+        alloc: Global,
+        verdicts: &V,
+        source: &[u8],
+        place: Place,
+        from: usize,
+        line: u32,
+        until: usize,
+        blank: Blank,
+    ) -> Result<Sought, AllocError>
+        requires name { blank.name ≡ L.name }
+        requires parts { blank.parts ≡ L.parts }
+        requires some { 0 < blank.parts }
+        requires within { from ≤ length source.now }
+        requires line { line ≡ line_of source.now from }
+        requires whole { is_whole source.now from ≡ true }
+        requires few { self.old.deep + length source.now < 2 ^ 128 }
+        ensures seeks { IfOk result (λ sought. Seeks (V.verdict verdicts.now) place source.now from until
+            self.old self.new sought) }
+        ensures few { IfOk result (λ _. self.new.deep ≤ self.old.deep + length source.now) }
+        ensures block { self.new.block ≡ self.old.block }
+    {
+        let mut steps = Steps::<L>::new(blank);
+        self.seek(
+            alloc, verdicts, source, place, from, line, until, &mut steps,
+        )
     }
 }

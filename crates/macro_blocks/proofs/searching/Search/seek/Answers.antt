@@ -1,7 +1,7 @@
 -- The next statement is passed, or the search ends there, or nothing is left.
-use Rattle.std.proofs.Common.{◌≡◌, map, take, subst, ap, sym, ◌∙◌, Option, Result, Bool, arith}
+use Rattle.std.proofs.Common.{◌≡◌, ◌+◌, ◌*◌, ◌≤◌, map, take, subst, ap, sym, ◌∙◌, Option, Result, Bool, arith}
 use Rattle.asm_base.specs.Tokens.{spelled}
-use Rattle.asm_lines.specs.NextStatements.{StandsNext}
+use Rattle.asm_lines.specs.NextStatements.{StandsNext, bytes_passed}
 use Rattle.macro_words.specs.declared.causes.MacroCause.{MacroCause}
 use Rattle.macro_blocks.specs.Places.{pos_in, read_at}
 use Rattle.macro_blocks.specs.Searches.{PassesOne}
@@ -15,9 +15,9 @@ returns-in-Some-clause-seeks g c =
     let source = c.args.source.now in
     let at = c.loop-at.at in
     let next = c.in-Statement.next in
-    let tokens = c.next_statement.new.tokens.items in
+    let tokens = c.counted_next_statement.new.tokens.items in
     let read = take c.in-Statement.count tokens in
-    let step = (subst (StandsNext source at tokens) c.in-Statement.is c.in_ok-here.ensures).1 in
+    let step = (subst (StandsNext source at tokens) c.in-Statement.is c.in_ok-here.ensures.stands).1 in
     let spells = map spelled (take c.in-Statement.count c.as_slice.result.now) in
     let Passes : Option (Result Bool MacroCause) → Type 0 = λ stop. PassesOne verdict c.loop-at.self c.pass.new.self spells stop in
     let ends = subst Passes c.in-Some.is c.in_ok-verdict-in-Statement.ensures.passes in
@@ -32,14 +32,15 @@ loop-at-preserved g c =
     let source = c.args.source.now in
     let at = c.loop-at.at in
     let next = c.in-Statement.next in
-    let tokens = c.next_statement.new.tokens.items in
+    let tokens = c.counted_next_statement.new.tokens.items in
     let read = take c.in-Statement.count tokens in
-    let step = (subst (StandsNext source at tokens) c.in-Statement.is c.in_ok-here.ensures).1 in
+    let step = (subst (StandsNext source at tokens) c.in-Statement.is c.in_ok-here.ensures.stands).1 in
     let spells = map spelled (take c.in-Statement.count c.as_slice.result.now) in
     let Passes : Option (Result Bool MacroCause) → Type 0 = λ stop. PassesOne verdict c.loop-at.self c.pass.new.self spells stop in
     let passes = subst Passes c.in-None.is c.in_ok-verdict-in-Statement.ensures.passes in
     let head = next_left c.args.place source at read c.in-Statement.here next c.in-Statement.there step in
     let these : map spelled read ≡ spells = ap (λ all. map spelled (take c.in-Statement.count all)) (sym c.as_slice.ensures.value) in
+    let looked = subst (λ found. c.counted_next_statement.new.steps ≤ c.loop-at.steps + 2 * bytes_passed source at found + 1) c.in-Statement.is c.in_ok-here.ensures.passed in
     record {
       passed = passed_on verdict c.args.place source c.args.from c.args.self.now at next c.loop-at.self c.pass.new.self (read_at (pos_in c.args.place c.in-Statement.here) read) c.loop-at.invariant.passed head (passes _ these);
       line = step.there;
@@ -47,6 +48,7 @@ loop-at-preserved g c =
       whole = whole_next source at read c.in-Statement.here next c.in-Statement.there step c.loop-at.invariant.whole;
       few = omega (arith, step.more);
       behind = omega (arith, step.more);
+      looks = omega (arith, step.more, looked);
       block = c.in_ok-verdict-in-Statement.ensures.block ∙ c.loop-at.invariant.block;
     }
 
@@ -54,5 +56,17 @@ pub returns-in-End-clause-seeks : goal.returns-in-End-clause-seeks
 returns-in-End-clause-seeks g c =
     let source = c.args.source.now in
     let at = c.loop-at.at in
-    let step = subst (StandsNext source at c.next_statement.new.tokens.items) c.in-End.is c.in_ok-here.ensures in
+    let step = subst (StandsNext source at c.counted_next_statement.new.tokens.items) c.in-End.is c.in_ok-here.ensures.stands in
     passed_all (g.V.Verdicts.verdict c.args.verdicts.now) c.args.place source c.args.from c.args.self.now at c.loop-at.self c.loop-at.invariant.passed (end_left c.args.place source at step)
+
+pub returns-in-Some-clause-sought : goal.returns-in-Some-clause-sought
+returns-in-Some-clause-sought g c =
+    let source = c.args.source.now in
+    let at = c.loop-at.at in
+    let step = (subst (StandsNext source at c.counted_next_statement.new.tokens.items) c.in-Statement.is c.in_ok-here.ensures.stands).1 in
+    let looked = subst (λ found. c.counted_next_statement.new.steps ≤ c.loop-at.steps + 2 * bytes_passed source at found + 1) c.in-Statement.is c.in_ok-here.ensures.passed in
+    omega (arith, step.more, looked)
+
+pub returns-in-End-clause-sought : goal.returns-in-End-clause-sought
+returns-in-End-clause-sought g c =
+    omega (arith, c.in_ok-here.ensures.looks)

@@ -1,5 +1,5 @@
 -- The statements between are passed.
-use Rattle.std.proofs.Common.{◌≡◌, ◌+◌, ◌-◌, ◌≤◌, true, length}
+use Rattle.std.proofs.Common.{◌≡◌, ◌+◌, ◌*◌, ◌-◌, ◌≤◌, true, length}
 use Rattle.asm_lines.specs.LineNumbers.{line_of}
 use Rattle.macro_blocks.specs.Places.{is_whole}
 use Rattle.macro_blocks.specs.Searches.{PassesUpTo}
@@ -13,6 +13,7 @@ invariant-loop-at g l = record {
   whole : is_whole l.source l.at ≡ true;
   few : l.self.deep + l.from ≤ l.fn.self.deep + l.at;
   behind : l.from ≤ l.at;
+  looks : 3 * l.from + l.steps ≤ l.fn.steps + 3 * l.at;
   block : l.self.block ≡ l.fn.self.block;
 }
 
