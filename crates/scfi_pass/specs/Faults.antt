@@ -107,3 +107,23 @@ IsSound s = (fault : ScfiFault) → IsTold s fault → ⊥
 pub record IsFirst (s : Situation) (fault : ScfiFault) : Type 0 where
   pub told : IsTold s fault
   pub first : (other : ScfiFault) → IsTold s other → rank_of fault ≤ rank_of other
+
+-- the fault says that what the item does cannot be followed, whatever a frame table says of it
+abbrev pub is_unfollowed : ScfiFault → Bool
+is_unfollowed scfi.ReturnAddressOverwritten = true
+is_unfollowed scfi.UntraceableJump = true
+is_unfollowed scfi.CallIntoFunction = true
+is_unfollowed scfi.NotInstructions = true
+is_unfollowed scfi.UnsupportedStackUse = true
+is_unfollowed scfi.OffsetTooLarge = true
+is_unfollowed _ = false
+
+-- no such fault is told here
+abbrev pub IsFollowed : Situation → Type 0
+IsFollowed s = (fault : ScfiFault) → is_unfollowed fault ≡ true → IsTold s fault → ⊥
+
+-- such a fault is told here, and none of them of a lower rank
+pub record IsFirstUnfollowed (s : Situation) (fault : ScfiFault) : Type 0 where
+  pub unfollowed : is_unfollowed fault ≡ true
+  pub told : IsTold s fault
+  pub first : (other : ScfiFault) → is_unfollowed other ≡ true → IsTold s other → rank_of fault ≤ rank_of other

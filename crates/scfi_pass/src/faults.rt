@@ -2,7 +2,7 @@
 
 ghost use Rattle.std.specs.Prelude.{◌≡◌, IfErr, IfOk, IsTrue, OnOk, Some};
 ghost use Rattle.scfi_pass.specs.Rows.{cfa_of};
-ghost use Rattle.scfi_pass.specs.Faults.{IsFirst, IsSound};
+ghost use Rattle.scfi_pass.specs.Faults.{IsFirst, IsSound, IsFollowed, IsFirstUnfollowed};
 ghost use Rattle.scfi_pass.specs.Looking.{seen, IsClear, IsToldAt};
 
 use crate::checks::{
@@ -187,4 +187,19 @@ pub(crate) fn checked(looked: &Looked, held: bool) -> Result<Cfa, ScfiFault>
     check_use(looked)?;
     check_far(looked)?;
     Ok(cfa)
+}
+
+/// Whether what an item does can be followed, or else the first fault that says that it cannot. Such
+/// faults stand in the way of any frame table, also of one that is written.
+pub fn check_followed(looked: &Looked) -> Result<(), ScfiFault>
+    ensures first { IfErr result (IsFirstUnfollowed (seen looked.now)) }
+    ensures followed { OnOk result (IsFollowed (seen looked.now)) }
+{
+    check_return_address(looked)?;
+    check_jump(looked)?;
+    check_call(looked)?;
+    check_data(looked)?;
+    check_use(looked)?;
+    check_far(looked)?;
+    Ok(())
 }

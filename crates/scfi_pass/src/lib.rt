@@ -16,8 +16,11 @@ mod synthesis;
 mod tables;
 mod walked;
 
+pub use faults::check_followed;
 pub use item_ops::ItemOp;
 pub use laws::{rows_begin, worked_function};
+pub use looking::Looked;
+pub use registers::saved_register;
 pub use rows::{Cfa, StackRow};
 pub use synthesis::synthesize;
 pub use walked::ItemFault;

@@ -7,11 +7,16 @@ use stack_facts::FactTable;
 
 /// An item that is looked at.
 #[derive(Clone, Copy)]
-pub(crate) struct Looked<'a> {
-    pub(crate) depths: &'a DepthTable,
-    pub(crate) facts: &'a FactTable,
-    pub(crate) place: usize,
-    pub(crate) item: CodeItem,
-    pub(crate) node: Node,
-    pub(crate) last: bool,
+pub struct Looked<'a> {
+    /// What is known at each item of the function.
+    pub depths: &'a DepthTable,
+    /// What stands at each item.
+    pub facts: &'a FactTable,
+    /// Which of the items it is.
+    pub place: usize,
+    pub item: CodeItem,
+    /// Where control goes from it.
+    pub node: Node,
+    /// Whether it is the last one.
+    pub last: bool,
 }

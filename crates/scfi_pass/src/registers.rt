@@ -5,8 +5,8 @@ ghost use Rattle.scfi_pass.specs.Registers as spec;
 
 use asm_base::SavedRegister;
 
-/// A callee-saved register by its number among the seven.
-pub(crate) fn saved_register(number: u8) -> SavedRegister
+/// A callee-saved register by its number among the seven, of which rsp is 0.
+pub fn saved_register(number: u8) -> SavedRegister
     requires some { 0 < number }
     requires known { number < 7 }
     ensures { spec.number_of result ≡ number }

@@ -5,8 +5,10 @@ use Rattle.insn_effects.specs.declared.effects.Role.TheVariants as role
 use Rattle.insn_effects.specs.declared.effects.Effect.{Effect}
 use Rattle.insn_effects.specs.Followed.{FollowedStore, FollowedLoad, FollowedMove, followed_by, stores_by, loads_by}
 use Rattle.stack_depths.specs.Distances.{Distances, has_bit}
+use Rattle.stack_facts.specs.declared.values.Clauses.{Clauses}
+use Rattle.stack_facts.specs.declared.values.Clauses.TheVariants.{Synthesis, Kept}
 use Rattle.stack_facts.specs.declared.values.Slot.{Slot}
-use Rattle.stack_facts.specs.Places.{overlaps, gap, is_saved, is_slot_place, fixed, span_at, stored_by, saved_at, saved_by, loaded_at, loaded_by, change_of, moves_to, loads_to, writes}
+use Rattle.stack_facts.specs.Places.{overlaps, gap, is_saved, is_slot_place, fixed, span_at, stored_by, saved_at, saved_by, loaded_at, loaded_by, dropped_by, change_by, moves_to, loads_to, writes}
 use Rattle.stack_facts.specs.Facts.{is_at, is_touched}
 use Rattle.stack_facts.specs.Sources.{IsChange}
 
@@ -111,10 +113,15 @@ saves_only e known n r h = by_access (one_access e.role e)
         nothing x = cc
     by_access (inr none) = ap (λ l. is_at (loaded_by l known) n r) none
 
+-- a kept slot is not dropped
+drops_less : (by : Clauses) (loaded : Option Slot) (n r : ℕ) → is_at loaded n r ≡ false → is_at (dropped_by by loaded) n r ≡ false
+drops_less Synthesis loaded n r h = h
+drops_less Kept loaded n r h = refl
+
 -- what the law of one source asks for holds of each effect
-pub is_change : (e : Effect) (known : Distances) → IsChange (writes (followed_by e)) (change_of (followed_by e) known)
-is_change e known = record {
+pub is_change : (by : Clauses) (e : Effect) (known : Distances) → IsChange (writes (followed_by e)) (change_by by (followed_by e) known)
+is_change by e known = record {
   loads_write = λ s h. loads_write (followed_by e).moves (followed_by e).loads known (has_bit e.written) s h;
   saves_store = λ n r h. saves_store (followed_by e).stores known n r h;
-  saves_only = λ n r h. saves_only e known n r h;
+  saves_only = λ n r h. drops_less by (loaded_by (loads_by e.role e) known) n r (saves_only e known n r h);
 }

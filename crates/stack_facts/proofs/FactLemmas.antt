@@ -7,10 +7,11 @@ use Rattle.flow_graph.specs.Walks.{successor_lists, IsWalk}
 use Rattle.insn_effects.specs.Followed.{followed_by}
 use Rattle.code_functions.specs.declared.items.CodeItem.{CodeItem}
 use Rattle.stack_depths.specs.Distances.{Distances}
+use Rattle.stack_facts.specs.declared.values.Clauses.{Clauses}
 use Rattle.stack_facts.specs.declared.values.Slot.{Slot}
 use Rattle.stack_facts.specs.declared.values.Change.{Change}
-use Rattle.stack_facts.specs.Places.{is_saved, change_of, writes}
-use Rattle.stack_facts.specs.Facts.{Fact, entry, slot, is_at, is_below, is_touched, loads_own, facts_after, facts_over, facts_along, entry_facts, AreFacts}
+use Rattle.stack_facts.specs.Places.{is_saved, change_by, writes}
+use Rattle.stack_facts.specs.Facts.{Fact, entry, slot, is_at, is_below, is_touched, loads_own, facts_after, facts_over_by, facts_along_by, entry_facts, AreFactsBy}
 use Rattle.stack_facts.specs.Sets.{place_of, slot_at, fact_at, holds_in, IsPlain}
 use Rattle.stack_facts.specs.Sources.{source_over, carried_from}
 use Rattle.stack_facts.specs.States.{said, fact_of, fact_rules, stands_at, facts_in}
@@ -81,7 +82,7 @@ holds_after slots written c before after plain saved entries rest (slot n r) = b
         ap (λ b. b && get_or after (6 + place_of slots n r) false) e ∙ rest (place_of slots n r) h ∙ ap (facts_after written c (holds_in slots before)) (at_place slots n r h)
     by_place false e =
         ap (λ b. b && get_or after (6 + place_of slots n r) false) e
-        ∙ sym (none_stays (is_at c.saved n r) (holds_in slots before (slot n r)) (is_touched c.stored n || is_below c.cleared n) (is_at c.loaded n r) (is_below c.floor n) (holds_in slots before (entry r)) (unsaved (is_at c.saved n r) refl) (ap (λ b. b && get_or before (6 + place_of slots n r) false) e))
+        ∙ sym (none_stays (is_at c.saved n r) (holds_in slots before (slot n r)) (is_touched c.stored n || is_below c.cleared n) (is_at c.freed n r) (is_below c.floor n) (holds_in slots before (entry r)) (unsaved (is_at c.saved n r) refl) (ap (λ b. b && get_or before (6 + place_of slots n r) false) e))
       where
         unsaved : (b : Bool) → is_at c.saved n r ≡ b → b ≡ false
         unsaved false t = refl
@@ -135,9 +136,9 @@ carried_said stood (Some (entry r)) = refl
 carried_said stood (Some (slot n r)) = refl
 
 -- the facts after an item come from one before it
-pub over_source : (o : Option CodeItem) (known : Distances) (stood : Fact → Bool) (f : Fact) → facts_over o known stood f ≡ carried_from stood (source_over o known f)
-over_source None known stood f = refl
-over_source (Some item) known stood f = after_from_source (writes (followed_by item.effect)) (change_of (followed_by item.effect) known) stood f (is_change item.effect known)
+pub over_source : (by : Clauses) (o : Option CodeItem) (known : Distances) (stood : Fact → Bool) (f : Fact) → facts_over_by by o known stood f ≡ carried_from stood (source_over by o known f)
+over_source by None known stood f = refl
+over_source by (Some item) known stood f = after_from_source (writes (followed_by item.effect)) (change_by by (followed_by item.effect) known) stood f (is_change by item.effect known)
 
 -- facts that come from sets that are the same
 same_carried : (a b : lists.Fact → Bool) (o : Option lists.Fact) → ((f : lists.Fact) → a f ≡ b f) → lists.carried_from a o ≡ lists.carried_from b o
@@ -145,14 +146,15 @@ same_carried a b None h = refl
 same_carried a b (Some f) h = h f
 
 -- a walk carries the facts along it
-along : (items : List CodeItem) (known : ℕ → Distances) (slots : List Slot) (w : List ℕ) (f : lists.Fact) → lists.carries (fact_rules items known slots) w f ≡ facts_along items known w (fact_of f)
+along : (by : Clauses) (items : List CodeItem) (known : ℕ → Distances) (slots : List Slot) (w : List ℕ) (f : lists.Fact)
+    → lists.carries (fact_rules by items known slots) w f ≡ facts_along_by by items known w (fact_of f)
 unfolding fact_rules
-along items known slots [] f = refl
-along items known slots (i ∷ w) f =
-    let o = source_over (slice_get items i) (known i) (fact_of f) in
-    same_carried (lists.carries (fact_rules items known slots) w) (λ g. facts_along items known w (fact_of g)) (option_map said o) (along items known slots w)
-    ∙ carried_said (facts_along items known w) o
-    ∙ sym (over_source (slice_get items i) (known i) (facts_along items known w) (fact_of f))
+along by items known slots [] f = refl
+along by items known slots (i ∷ w) f =
+    let o = source_over by (slice_get items i) (known i) (fact_of f) in
+    same_carried (lists.carries (fact_rules by items known slots) w) (λ g. facts_along_by by items known w (fact_of g)) (option_map said o) (along by items known slots w)
+    ∙ carried_said (facts_along_by by items known w) o
+    ∙ sym (over_source by (slice_get items i) (known i) (facts_along_by by items known w) (fact_of f))
 
 -- what is said of a fact is the fact
 unsaid : (f : Fact) → fact_of (said f) ≡ f
@@ -160,18 +162,18 @@ unsaid (entry r) = refl
 unsaid (slot n r) = refl
 
 -- what the work list answers is what all walks carry
-pub exact_facts : (nodes : List Node) (items : List CodeItem) (known : ℕ → Distances) (slots : List Slot) (states : List (Option (List Bool)))
+pub exact_facts : (by : Clauses) (nodes : List Node) (items : List CodeItem) (known : ℕ → Distances) (slots : List Slot) (states : List (Option (List Bool)))
     → ((w : List ℕ) (j : ℕ) → IsWalk nodes w j → graphs.IsWalk (successor_lists nodes) w j)
     → ((w : List ℕ) (j : ℕ) → graphs.IsWalk (successor_lists nodes) w j → IsWalk nodes w j)
-    → lists.AreExact (fact_rules items known slots) (successor_lists nodes) states → AreFacts nodes items known (facts_in (slots, states))
+    → lists.AreExact (fact_rules by items known slots) (successor_lists nodes) states → AreFactsBy by nodes items known (facts_in (slots, states))
 unfolding fact_rules facts_in
-exact_facts nodes items known slots states listed unlisted exact j f = at_state (lists.look states j) (exact.1 j)
+exact_facts by nodes items known slots states listed unlisted exact j f = at_state (lists.look states j) (exact.1 j)
   where
-    carried : (w : List ℕ) → lists.carries (fact_rules items known slots) w (said f) ≡ facts_along items known w f
-    carried w = along items known slots w (said f) ∙ ap (facts_along items known w) (unsaid f)
+    carried : (w : List ℕ) → lists.carries (fact_rules by items known slots) w (said f) ≡ facts_along_by by items known w f
+    carried w = along by items known slots w (said f) ∙ ap (facts_along_by by items known w) (unsaid f)
 
-    at_state : (o : Option (List Bool)) → lists.IsExactAt (fact_rules items known slots) (successor_lists nodes) j o
-        → (stands_at slots o f ≡ true) ↔ (((w : List ℕ) × IsWalk nodes w j) × ((w : List ℕ) → IsWalk nodes w j → facts_along items known w f ≡ true))
+    at_state : (o : Option (List Bool)) → lists.IsExactAt (fact_rules by items known slots) (successor_lists nodes) j o
+        → (stands_at slots o f ≡ true) ↔ (((w : List ℕ) × IsWalk nodes w j) × ((w : List ℕ) → IsWalk nodes w j → facts_along_by by items known w f ≡ true))
     at_state None e = (λ h. cc, λ h. absurd (e h.0.0 (listed h.0.0 j h.0.1)))
     at_state (Some s) e = (
       λ h. ((e.0.0, unlisted e.0.0 j e.0.1), λ w walk. sym (carried w) ∙ (e.1 (said f)).0 (ap (holds_in slots s) (unsaid f) ∙ h) w (listed w j walk)),
@@ -179,9 +181,9 @@ exact_facts nodes items known slots states listed unlisted exact j f = at_state 
     )
 
 -- nothing stands in a function without items
-pub no_facts : (nodes : List Node) (items : List CodeItem) (known : ℕ → Distances) (slots : List Slot) (states : List (Option (List Bool))) → length nodes ≡ 0 → states ≡ [] → AreFacts nodes items known (facts_in (slots, states))
+pub no_facts : (by : Clauses) (nodes : List Node) (items : List CodeItem) (known : ℕ → Distances) (slots : List Slot) (states : List (Option (List Bool))) → length nodes ≡ 0 → states ≡ [] → AreFactsBy by nodes items known (facts_in (slots, states))
 unfolding facts_in
-no_facts nodes items known slots states none e j f = (λ h. nothing (ap (λ x. stands_at slots (lists.look x j) f) (sym e) ∙ h), λ h. no_walks h.0.0 j h.0.1)
+no_facts by nodes items known slots states none e j f = (λ h. nothing (ap (λ x. stands_at slots (lists.look x j) f) (sym e) ∙ h), λ h. no_walks h.0.0 j h.0.1)
   where
     nothing : {A : Type 0} → false ≡ true → A
     nothing h = cc
@@ -191,8 +193,8 @@ no_facts nodes items known slots states none e j f = (λ h. nothing (ap (λ x. s
     no_walks (i ∷ w) k h = no_walks w i h.1
 
 -- the facts of the work list after an item, where the set has those after it
-pub after_case : (o : Option CodeItem) (known : Distances) (slots : List Slot) (before after : List Bool)
-    → ((f : Fact) → holds_in slots after f ≡ facts_over o known (holds_in slots before) f)
-    → (f : lists.Fact) → holds_in slots after (fact_of f) ≡ lists.carried_from (λ g. holds_in slots before (fact_of g)) (option_map said (source_over o known (fact_of f)))
-after_case o known slots before after h f =
-    h (fact_of f) ∙ over_source o known (holds_in slots before) (fact_of f) ∙ sym (carried_said (holds_in slots before) (source_over o known (fact_of f)))
+pub after_case : (by : Clauses) (o : Option CodeItem) (known : Distances) (slots : List Slot) (before after : List Bool)
+    → ((f : Fact) → holds_in slots after f ≡ facts_over_by by o known (holds_in slots before) f)
+    → (f : lists.Fact) → holds_in slots after (fact_of f) ≡ lists.carried_from (λ g. holds_in slots before (fact_of g)) (option_map said (source_over by o known (fact_of f)))
+after_case by o known slots before after h f =
+    h (fact_of f) ∙ over_source by o known (holds_in slots before) (fact_of f) ∙ sym (carried_said (holds_in slots before) (source_over by o known (fact_of f)))

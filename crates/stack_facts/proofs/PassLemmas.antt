@@ -191,26 +191,26 @@ two_tests true false b = refl
 two_tests false a b = refl
 
 -- a slot after an item, of sets that are made one from the other
-pub slot_after : (slots : List Slot) (written : ℕ → Bool) (c : Change) (before known stored cleared saved loaded risen : List Bool) (k : ℕ) → IsPlain slots → k < length slots
+pub slot_after : (slots : List Slot) (written : ℕ → Bool) (c : Change) (before known stored cleared saved freed risen : List Bool) (k : ℕ) → IsPlain slots → k < length slots
     → get_or known (6 + k) false ≡ get_or before (6 + k) false
     → IsDropped known stored (is_stored c.stored slots) (length slots) → IsDropped stored cleared (is_under c.cleared slots) (length slots)
-    → IsMade slots c.saved before cleared saved → IsFreed slots c.loaded before saved loaded → IsDropped loaded risen (is_under c.floor slots) (length slots)
+    → IsMade slots c.saved before cleared saved → IsFreed slots c.freed before saved freed → IsDropped freed risen (is_under c.floor slots) (length slots)
     → get_or risen (6 + k) false ≡ facts_after written c (holds_in slots before) (fact_at slots k)
-slot_after slots written c before known stored cleared saved loaded risen k plain h same a b m f r =
+slot_after slots written c before known stored cleared saved freed risen k plain h same a b m f r =
     let stood = stands_there slots before k plain h in
     r.done k h ∙ ap (λ x. x && not (is_under c.floor slots k)) (f.each k h
-    ∙ ap (λ x. x && not (is_here c.loaded slots k && holds_in slots before (fact_at slots k))) (m.each k h
+    ∙ ap (λ x. x && not (is_here c.freed slots k && holds_in slots before (fact_at slots k))) (m.each k h
     ∙ ap (λ x. (is_here c.saved slots k && holds_in slots before (entry (slot_at slots k).register)) || x) (b.done k h
     ∙ ap (λ x. x && not (is_under c.cleared slots k)) (a.done k h ∙ ap (λ x. x && not (is_stored c.stored slots k)) (same ∙ stood))
     ∙ two_tests (holds_in slots before (fact_at slots k)) (is_stored c.stored slots k) (is_under c.cleared slots k))))
 
 -- behind the table nothing is put
-pub none_after : (slots : List Slot) (c : Change) (before known stored cleared saved loaded risen : List Bool) (k : ℕ) → 6 + length slots ≤ k
+pub none_after : (slots : List Slot) (c : Change) (before known stored cleared saved freed risen : List Bool) (k : ℕ) → 6 + length slots ≤ k
     → get_or known k false ≡ false
     → IsDropped known stored (is_stored c.stored slots) (length slots) → IsDropped stored cleared (is_under c.cleared slots) (length slots)
-    → IsMade slots c.saved before cleared saved → IsFreed slots c.loaded before saved loaded → IsDropped loaded risen (is_under c.floor slots) (length slots)
+    → IsMade slots c.saved before cleared saved → IsFreed slots c.freed before saved freed → IsDropped freed risen (is_under c.floor slots) (length slots)
     → get_or risen k false ≡ false
-none_after slots c before known stored cleared saved loaded risen k h none a b m f r =
+none_after slots c before known stored cleared saved freed risen k h none a b m f r =
     let n = k - 6 in
     let far : length slots ≤ n = omega arith in
     let back : 6 + n ≡ k = omega arith in

@@ -7,9 +7,11 @@ use Rattle.insn_effects.specs.declared.effects.Role.TheVariants as role
 use Rattle.insn_effects.specs.declared.effects.Effect.{Effect}
 use Rattle.insn_effects.specs.Followed.{FollowedMove, FollowedStore, FollowedLoad, Followed, followed_by, moves_by, stores_by, loads_by, calls_by}
 use Rattle.stack_depths.specs.Distances.{Distances, has_bit}
+use Rattle.stack_facts.specs.declared.values.Clauses.{Clauses}
+use Rattle.stack_facts.specs.declared.values.Clauses.TheVariants.{Synthesis, Kept}
 use Rattle.stack_facts.specs.declared.values.Slot.{Slot}
 use Rattle.stack_facts.specs.declared.values.Change.{Change}
-use Rattle.stack_facts.specs.Places.{below, floor_by, is_saved, change_of, moves_to, loads_to, writes, nothing_followed, is_quiet_role}
+use Rattle.stack_facts.specs.Places.{below, floor_by, is_saved, dropped_by, change_by, moves_to, loads_to, writes, nothing_followed, is_quiet_role}
 use Rattle.stack_facts.specs.Facts.{Fact, entry, slot, is_below, loads_own, facts_after, IsSlotOf}
 use Rattle.stack_facts.specs.Sets.{place_of, holds_in}
 
@@ -64,14 +66,15 @@ slot_stays false false h = refl
 slot_stays x true h = cc
 
 -- where nothing is followed of an item, the same facts stand after it
-nothing_changes : (known : Distances) (stood : Fact → Bool) (f : Fact) → facts_after (writes nothing_followed) (change_of nothing_followed known) stood f ≡ stood f
-nothing_changes known stood (entry r) = ap (λ b. stood (entry r) && not b) (no_bit r) ∙ and_true (stood (entry r))
-nothing_changes known stood (slot n r) = slot_stays (stood (slot n r)) (is_below (floor_by (known 0) (known 0)) n) (no_floor (known 0) n)
+nothing_changes : (by : Clauses) (known : Distances) (stood : Fact → Bool) (f : Fact) → facts_after (writes nothing_followed) (change_by by nothing_followed known) stood f ≡ stood f
+nothing_changes by known stood (entry r) = ap (λ b. stood (entry r) && not b) (no_bit r) ∙ and_true (stood (entry r))
+nothing_changes Synthesis known stood (slot n r) = slot_stays (stood (slot n r)) (is_below (floor_by (known 0) (known 0)) n) (no_floor (known 0) n)
+nothing_changes Kept known stood (slot n r) = slot_stays (stood (slot n r)) false refl
 
 -- the same of an item of which nothing is followed
-pub quiet_after : (e : Effect) (known : Distances) (stood : Fact → Bool) (f : Fact) → followed_by e ≡ nothing_followed
-    → facts_after (writes (followed_by e)) (change_of (followed_by e) known) stood f ≡ stood f
-quiet_after e known stood f quiet = ap (λ g. facts_after (writes g) (change_of g known) stood f) quiet ∙ nothing_changes known stood f
+pub quiet_after : (by : Clauses) (e : Effect) (known : Distances) (stood : Fact → Bool) (f : Fact) → followed_by e ≡ nothing_followed
+    → facts_after (writes (followed_by e)) (change_by by (followed_by e) known) stood f ≡ stood f
+quiet_after by e known stood f quiet = ap (λ g. facts_after (writes g) (change_by by g known) stood f) quiet ∙ nothing_changes by known stood f
 
 -- an entry value that is neither loaded nor written stays
 pub kept_entry : (slots : List Slot) (written : ℕ → Bool) (c : Change) (before : List Bool) (k : ℕ) → k < 6 → c.loaded ≡ None → written (k + 1) ≡ false

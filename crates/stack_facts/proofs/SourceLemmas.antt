@@ -45,4 +45,4 @@ after_from_source written c stood (entry r) is = by_load c.loaded refl
     by_load : (o : Option Slot) → c.loaded ≡ o → (loads_own o stood r || (stood (entry r) && not (written r))) ≡ carried_from stood (entry_source o (written r) r)
     by_load None e = entry_case false (written r) stood (entry r) (entry r) (λ h. absurd cc)
     by_load (Some x) e = entry_case (x.register == r) (written r) stood (slot x.distance r) (entry r) (λ h. let same : x.register ≡ r = grind (arith, nat_tests) in let P : ℕ → Type 0 = λ q. written q ≡ true in subst P same (is.loads_write x e))
-after_from_source written c stood (slot n r) is = slot_case (is_below c.floor n) (is_at c.saved n r) (is_touched c.stored n) (is_below c.cleared n) (is_at c.loaded n r) stood (slot n r) (entry r) (is.saves_store n r) (is.saves_only n r)
+after_from_source written c stood (slot n r) is = slot_case (is_below c.floor n) (is_at c.saved n r) (is_touched c.stored n) (is_below c.cleared n) (is_at c.freed n r) stood (slot n r) (entry r) (is.saves_store n r) (is.saves_only n r)

@@ -7,8 +7,10 @@ use Rattle.code_functions.specs.declared.items.CodeItem.{CodeItem}
 use Rattle.stack_depths.specs.Distances.{Distances}
 use Rattle.stack_facts.specs.declared.values.Span.{Span}
 use Rattle.stack_facts.specs.declared.values.Slot.{Slot}
+use Rattle.stack_facts.specs.declared.values.Clauses.{Clauses}
+use Rattle.stack_facts.specs.declared.values.Clauses.TheVariants.{Synthesis, Kept}
 use Rattle.stack_facts.specs.declared.values.Change.{Change}
-use Rattle.stack_facts.specs.Places.{below, overlaps, is_saved, saved_by, change_of, writes}
+use Rattle.stack_facts.specs.Places.{below, overlaps, is_saved, saved_by, change_by, writes}
 
 -- a register has its entry value, or the 8 bytes at a distance from the frame address, a slot, hold a register's entry value
 pub data Fact : Type 0 where
@@ -50,12 +52,12 @@ abbrev pub loads_own : Option Slot → (stood : Fact → Bool) → ℕ → Bool
 loads_own None stood r = false
 loads_own (Some s) stood r = s.register == r && stood (slot s.distance r)
 
--- 4. a register that is loaded from a slot of its own that stood before the item has its entry value, and the slot is dropped
+-- 4. a register that is loaded from a slot of its own that stood before the item has its entry value, and the slot is dropped; a kept one stays
 abbrev pub after_loading : Change → (stood : Fact → Bool) → (Fact → Bool) → Fact → Bool
 after_loading c stood now (entry r) = loads_own c.loaded stood r || now (entry r)
-after_loading c stood now (slot n r) = now (slot n r) && not (is_at c.loaded n r && stood (slot n r))
+after_loading c stood now (slot n r) = now (slot n r) && not (is_at c.freed n r && stood (slot n r))
 
--- 5. slots below an rsp that rose are dropped
+-- 5. slots below an rsp that rose are dropped; kept ones stay
 abbrev pub after_rising : Change → (Fact → Bool) → Fact → Bool
 after_rising c now (entry r) = now (entry r)
 after_rising c now (slot n r) = now (slot n r) && not (is_below c.floor n)
@@ -65,10 +67,10 @@ abbrev pub facts_after : (written : ℕ → Bool) → Change → (stood : Fact �
 facts_after written c stood f =
     after_rising c (after_loading c stood (after_writing written (after_saving c (after_storing c stood)))) f
 
--- the facts after an item, if it is there
-abbrev pub facts_over : Option CodeItem → Distances → (stood : Fact → Bool) → Fact → Bool
-facts_over None known stood f = stood f
-facts_over (Some item) known stood f = facts_after (writes (followed_by item.effect)) (change_of (followed_by item.effect) known) stood f
+-- the facts after an item by these clauses, if it is there
+abbrev pub facts_over_by : Clauses → Option CodeItem → Distances → (stood : Fact → Bool) → Fact → Bool
+facts_over_by by None known stood f = stood f
+facts_over_by by (Some item) known stood f = facts_after (writes (followed_by item.effect)) (change_by by (followed_by item.effect) known) stood f
 
 -- at entry the six have their entry values
 abbrev pub entry_facts : Fact → Bool
@@ -76,14 +78,28 @@ entry_facts (entry r) = is_saved r
 entry_facts (slot n r) = false
 
 -- the facts along a walk through these items, the last one first, by the distances that are known at each item
-abbrev pub facts_along : List CodeItem → (ℕ → Distances) → List ℕ → Fact → Bool
-facts_along items known [] f = entry_facts f
-facts_along items known (last ∷ before) f = facts_over (slice_get items last) (known last) (facts_along items known before) f
+abbrev pub facts_along_by : Clauses → List CodeItem → (ℕ → Distances) → List ℕ → Fact → Bool
+facts_along_by by items known [] f = entry_facts f
+facts_along_by by items known (last ∷ before) f = facts_over_by by (slice_get items last) (known last) (facts_along_by by items known before) f
 
 -- a fact stands at an item exactly if there is a walk to the item and every walk to it carries the fact
+abbrev pub AreFactsBy : Clauses → List Node → List CodeItem → (ℕ → Distances) → (ℕ → Fact → Bool) → Type 0
+AreFactsBy by nodes items known stands = (j : ℕ) (f : Fact) → (stands j f ≡ true)
+    ↔ (((w : List ℕ) × IsWalk nodes w j) × ((w : List ℕ) → IsWalk nodes w j → facts_along_by by items known w f ≡ true))
+
+-- the same by the clauses of synthesis
+abbrev pub facts_over : Option CodeItem → Distances → (stood : Fact → Bool) → Fact → Bool
+facts_over = facts_over_by Synthesis
+
+abbrev pub facts_along : List CodeItem → (ℕ → Distances) → List ℕ → Fact → Bool
+facts_along = facts_along_by Synthesis
+
 abbrev pub AreFacts : List Node → List CodeItem → (ℕ → Distances) → (ℕ → Fact → Bool) → Type 0
-AreFacts nodes items known stands = (j : ℕ) (f : Fact) → (stands j f ≡ true)
-    ↔ (((w : List ℕ) × IsWalk nodes w j) × ((w : List ℕ) → IsWalk nodes w j → facts_along items known w f ≡ true))
+AreFacts = AreFactsBy Synthesis
+
+-- kept facts: a load leaves its slot standing, and an rsp that rises drops no slot
+abbrev pub AreKeptFacts : List Node → List CodeItem → (ℕ → Distances) → (ℕ → Fact → Bool) → Type 0
+AreKeptFacts = AreFactsBy Kept
 
 -- a register's slot with the greatest distance, or none where none stands
 abbrev pub IsSlotOf : (stands : Fact → Bool) → (register : ℕ) → Option ℕ → Type 0

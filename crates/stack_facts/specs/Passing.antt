@@ -44,9 +44,9 @@ pub record IsMade (slots : List Slot) (saved : Option Slot) (before word out : L
   pub high : (k : ℕ) → length slots ≤ k → get_or out (6 + k) false ≡ get_or word (6 + k) false
 
 -- a slot that stood is taken out of it
-pub record IsFreed (slots : List Slot) (loaded : Option Slot) (before word out : List Bool) : Type 0 where
+pub record IsFreed (slots : List Slot) (freed : Option Slot) (before word out : List Bool) : Type 0 where
   pub each : (k : ℕ) → k < length slots → get_or out (6 + k) false
-      ≡ (get_or word (6 + k) false && not (is_here loaded slots k && holds_in slots before (fact_at slots k)))
+      ≡ (get_or word (6 + k) false && not (is_here freed slots k && holds_in slots before (fact_at slots k)))
   pub high : (k : ℕ) → length slots ≤ k → get_or out (6 + k) false ≡ get_or word (6 + k) false
 
 -- a set has the entry values of another

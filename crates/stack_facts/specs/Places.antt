@@ -6,6 +6,8 @@ use Rattle.insn_effects.specs.Followed.{wrap, FollowedMove, FollowedStore, Follo
 use Rattle.stack_depths.specs.Distances.{Distances, has_bit, sum_of, distance_after}
 use Rattle.stack_facts.specs.declared.values.Span.{Span}
 use Rattle.stack_facts.specs.declared.values.Slot.{Slot}
+use Rattle.stack_facts.specs.declared.values.Clauses.{Clauses}
+use Rattle.stack_facts.specs.declared.values.Clauses.TheVariants.{Synthesis, Kept}
 use Rattle.stack_facts.specs.declared.values.Change.{Change}
 
 -- the order of distances as signed numbers
@@ -69,15 +71,25 @@ floor_by before None = None
 floor_by None (Some after) = Some after
 floor_by (Some before) (Some after) = if below before after then Some after else None
 
--- what an item does at known distances
-abbrev pub change_of : Followed → Distances → Change
-change_of e known = record {
+-- what is dropped by synthesis alone: kept facts keep it
+abbrev pub dropped_by : {A : Type 0} → Clauses → Option A → Option A
+dropped_by Synthesis dropped = dropped
+dropped_by Kept dropped = None
+
+-- what an item does at known distances, by these clauses
+abbrev pub change_by : Clauses → Followed → Distances → Change
+change_by by e known = record {
   stored = stored_by e.stores known;
   cleared = if e.calls then known 0 else None;
   saved = saved_by e.stores known;
   loaded = loaded_by e.loads known;
-  floor = floor_by (known 0) (distance_after e known 0);
+  freed = dropped_by by (loaded_by e.loads known);
+  floor = dropped_by by (floor_by (known 0) (distance_after e known 0));
 }
+
+-- by those of synthesis
+abbrev pub change_of : Followed → Distances → Change
+change_of = change_by Synthesis
 
 -- the move changes this register
 abbrev pub moves_to : Option FollowedMove → ℕ → Bool

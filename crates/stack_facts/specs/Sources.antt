@@ -4,8 +4,9 @@ use Rattle.insn_effects.specs.Followed.{followed_by}
 use Rattle.code_functions.specs.declared.items.CodeItem.{CodeItem}
 use Rattle.stack_depths.specs.Distances.{Distances}
 use Rattle.stack_facts.specs.declared.values.Slot.{Slot}
+use Rattle.stack_facts.specs.declared.values.Clauses.{Clauses}
 use Rattle.stack_facts.specs.declared.values.Change.{Change}
-use Rattle.stack_facts.specs.Places.{change_of, writes}
+use Rattle.stack_facts.specs.Places.{change_by, writes}
 use Rattle.stack_facts.specs.Facts.{Fact, entry, slot, is_at, is_below, is_touched}
 
 -- a fact that is not lost comes from itself
@@ -24,20 +25,20 @@ source_of written c (entry r) = entry_source c.loaded (written r) r
 source_of written c (slot n r) =
     if is_below c.floor n then None
     else if is_at c.saved n r then Some (entry r)
-    else unless ((is_touched c.stored n || is_below c.cleared n) || is_at c.loaded n r) (slot n r)
+    else unless ((is_touched c.stored n || is_below c.cleared n) || is_at c.freed n r) (slot n r)
 
--- the same of an item, if it is there
-abbrev pub source_over : Option CodeItem → Distances → Fact → Option Fact
-source_over None known f = Some f
-source_over (Some item) known f = source_of (writes (followed_by item.effect)) (change_of (followed_by item.effect) known) f
+-- the same of an item by these clauses, if it is there
+abbrev pub source_over : Clauses → Option CodeItem → Distances → Fact → Option Fact
+source_over by None known f = Some f
+source_over by (Some item) known f = source_of (writes (followed_by item.effect)) (change_by by (followed_by item.effect) known) f
 
 -- a fact stands that comes from this one, of those that stood
 abbrev pub carried_from : (Fact → Bool) → Option Fact → Bool
 carried_from stood None = false
 carried_from stood (Some f) = stood f
 
--- a register that is loaded is written, a save stores there, and what saves loads nothing from there
+-- a register that is loaded is written, a save stores there, and what saves frees nothing there
 pub record IsChange (written : ℕ → Bool) (c : Change) : Type 0 where
   pub loads_write : (s : Slot) → c.loaded ≡ Some s → written s.register ≡ true
   pub saves_store : (n r : ℕ) → is_at c.saved n r ≡ true → is_touched c.stored n ≡ true
-  pub saves_only : (n r : ℕ) → is_at c.saved n r ≡ true → is_at c.loaded n r ≡ false
+  pub saves_only : (n r : ℕ) → is_at c.saved n r ≡ true → is_at c.freed n r ≡ false

@@ -3,6 +3,7 @@ use Rattle.std.specs.Prelude.{◌+◌, ℕ, zero, suc, Bool, false, Option, None
 use Rattle.work_lists.specs.Exact as lists
 use Rattle.code_functions.specs.declared.items.CodeItem.{CodeItem}
 use Rattle.stack_depths.specs.Distances.{Distances}
+use Rattle.stack_facts.specs.declared.values.Clauses.{Clauses}
 use Rattle.stack_facts.specs.declared.values.Slot.{Slot}
 use Rattle.stack_facts.specs.Facts.{Fact, entry, slot, entry_facts}
 use Rattle.number_sets.specs.Bits.{counted}
@@ -19,14 +20,14 @@ abbrev pub fact_of : lists.Fact → Fact
 fact_of (lists.says zero r) = entry r
 fact_of (lists.says (suc n) r) = slot n r
 
--- the analysis of facts, over a table of slots
-unfoldable pub fact_rules : List CodeItem → (ℕ → Distances) → List Slot → lists.Rules (List Bool)
-fact_rules items known slots = record {
+-- the analysis of facts by these clauses, over a table of slots
+unfoldable pub fact_rules : Clauses → List CodeItem → (ℕ → Distances) → List Slot → lists.Rules (List Bool)
+fact_rules by items known slots = record {
   holds = λ bits f. holds_in slots bits (fact_of f);
   weight = λ bits. sum_by counted bits;
   limit = 6 + length slots;
   given = λ f. entry_facts (fact_of f);
-  source = λ i f. option_map said (source_over (slice_get items i) (known i) (fact_of f));
+  source = λ i f. option_map said (source_over by (slice_get items i) (known i) (fact_of f));
 }
 
 -- the facts of an item's set, where there is one

@@ -7,7 +7,7 @@ ghost use Rattle.stack_depths.specs.Distances.{has_bit, distance_after, moved_by
 ghost use Rattle.stack_depths.specs.States.{distances_in};
 ghost use Rattle.stack_facts.specs.Places as spec;
 
-use crate::values::{Change, Slot, Span};
+use crate::values::{Change, Clauses, Slot, Span};
 use insn_effects::{Effect, NONE, Role};
 use stack_depths::{
     DepthTable, FollowedAccess, FollowedMove, followed_load, followed_move, followed_store,
@@ -203,17 +203,47 @@ fn cleared_by(depths: &DepthTable, item: usize, effect: &Effect) -> Option<u64>
     }
 }
 
+/// The distance of rsp where it rose.
+#[inline(always)]
+fn risen(depths: &DepthTable, item: usize, effect: &Effect) -> Option<u64>
+    ensures { result ≡ spec.floor_by (distances_in depths.now item 0)
+        (distance_after (followed_by effect.now) (distances_in depths.now item) 0) }
+{
+    floor_by(depths.distance(item, 0), stack_after(depths, item, effect))
+}
+
 /// What an item does at the distances that are known there.
 #[inline(always)]
-pub(crate) fn change_of(depths: &DepthTable, item: usize, effect: &Effect) -> Change
-    ensures { result ≡ spec.change_of (followed_by effect.now) (distances_in depths.now item) }
+pub(crate) fn change_by(
+    clauses: Clauses,
+    depths: &DepthTable,
+    item: usize,
+    effect: &Effect,
+) -> Change
+    ensures { result
+        ≡ spec.change_by clauses (followed_by effect.now) (distances_in depths.now item) }
 {
-    Change {
-        stored: stored_at(depths, item, effect),
-        cleared: cleared_by(depths, item, effect),
-        saved: saved_by(depths, item, effect),
-        loaded: loaded_by(depths, item, effect),
-        floor: floor_by(depths.distance(item, 0), stack_after(depths, item, effect)),
+    let stored = stored_at(depths, item, effect);
+    let cleared = cleared_by(depths, item, effect);
+    let saved = saved_by(depths, item, effect);
+    let loaded = loaded_by(depths, item, effect);
+    match clauses {
+        Clauses::Synthesis => Change {
+            stored,
+            cleared,
+            saved,
+            loaded,
+            freed: loaded,
+            floor: risen(depths, item, effect),
+        },
+        Clauses::Kept => Change {
+            stored,
+            cleared,
+            saved,
+            loaded,
+            freed: None,
+            floor: None,
+        },
     }
 }
 

@@ -14,5 +14,5 @@ mod values;
 mod word_passing;
 
 pub use changes::{is_below, is_quiet, overlaps, stack_after, stored_at};
-pub use tables::{FactTable, facts};
+pub use tables::{FactTable, facts, facts_kept};
 pub use values::Span;

@@ -9,10 +9,10 @@ ghost use Rattle.stack_facts.specs.Sets.{holds_in, fact_at, place_of};
 ghost use Rattle.stack_facts.specs.Ranks.{IsRanked, IsCountBefore, IsNumber, IsEnd, rank_up_to, is_between, lies_between};
 ghost use Rattle.stack_facts.specs.Passing.{IsDropped, is_met, is_stored, is_lower, is_under, IsPut, IsMade, IsFreed, KeepsEntries};
 
-use crate::changes::{change_of, is_quiet, writes, writes_none};
+use crate::changes::{change_by, is_quiet, writes, writes_none};
 use crate::passing::has_entry;
 use crate::ranking::{count_before, place_in};
-use crate::values::{Change, Slot, Span};
+use crate::values::{Change, Clauses, Slot, Span};
 use insn_effects::Effect;
 use number_sets::{NumberSet, Numbers};
 use stack_depths::DepthTable;
@@ -222,7 +222,7 @@ fn put_saved(
 }
 
 /// Whether a slot stands.
-fn stands(slots: &[Slot], bits: &NumberSet, slot: Slot) -> bool
+pub(crate) fn stands(slots: &[Slot], bits: &NumberSet, slot: Slot) -> bool
     requires { IsRanked slots.now }
     ensures { result ≡ holds_in slots.now bits.now (spec.slot slot.distance slot.register) }
 {
@@ -230,22 +230,22 @@ fn stands(slots: &[Slot], bits: &NumberSet, slot: Slot) -> bool
     at < slots.len() && bits.has(6 + at)
 }
 
-/// Takes a slot out that stood, from which a register is loaded.
+/// Takes a slot out that stood, which a load frees.
 #[tactic(auto, using(crate::proofs::PassLemmas::loads_one, crate::proofs::PassLemmas::loads_unstood, crate::proofs::PassLemmas::loads_none))]
-fn clear_loaded(
+fn clear_freed(
     alloc: Global,
     slots: &[Slot],
     out: &mut NumberSet,
-    loaded: Option<Slot>,
+    freed: Option<Slot>,
     before: &NumberSet,
 ) -> Result<(), AllocError>
     requires ranked { IsRanked slots.now }
     requires room { length out.old ≡ 6 + length slots.now }
     ensures long { OnOk result (length out.new ≡ length out.old) }
     ensures entries { OnOk result (KeepsEntries out.old out.new) }
-    ensures freed { OnOk result (IsFreed slots.now loaded before.now out.old out.new) }
+    ensures freed { OnOk result (IsFreed slots.now freed before.now out.old out.new) }
 {
-    match loaded {
+    match freed {
         None => Ok(()),
         Some(slot) => {
             if stands(slots, before, slot) {
@@ -380,15 +380,16 @@ fn set_by(
     clear_stored(alloc, slots, &mut out, change.stored)?;
     clear_under(alloc, slots, &mut out, change.cleared)?;
     put_saved(alloc, slots, &mut out, change.saved, before)?;
-    clear_loaded(alloc, slots, &mut out, change.loaded, before)?;
+    clear_freed(alloc, slots, &mut out, change.freed, before)?;
     clear_under(alloc, slots, &mut out, change.floor)?;
     put_entries(alloc, slots, effect, change, before, &mut out)?;
     Ok(out)
 }
 
-/// The facts after an item at the distances that are known there.
+/// The facts after an item, by these clauses, at the distances that are known there.
 pub(crate) fn set_after(
     alloc: Global,
+    clauses: Clauses,
     slots: &[Slot],
     depths: &DepthTable,
     item: usize,
@@ -396,20 +397,20 @@ pub(crate) fn set_after(
     before: &NumberSet,
 ) -> Result<NumberSet, AllocError>
     requires ranked { IsRanked slots.now }
-    requires saved { (n r : ℕ) → spec.is_at (places.change_of (followed_by effect.now)
+    requires saved { (n r : ℕ) → spec.is_at (places.change_by clauses (followed_by effect.now)
         (distances_in depths.now item)).saved n r ≡ true
         → place_of slots.now n r < length slots.now }
     ensures long { IfOk result (λ bits. length bits ≡ 6 + length slots.now) }
     ensures at { IfOk result (λ bits. (f : spec.Fact) → holds_in slots.now bits f
         ≡ spec.facts_after (places.writes (followed_by effect.now))
-        (places.change_of (followed_by effect.now) (distances_in depths.now item))
+        (places.change_by clauses (followed_by effect.now) (distances_in depths.now item))
         (holds_in slots.now before.now) f) }
 {
     if is_quiet(effect) {
         let kept = same_of(alloc, slots, before)?;
         return Ok(kept);
     }
-    let change = change_of(depths, item, effect);
+    let change = change_by(clauses, depths, item, effect);
     let out = set_by(alloc, slots, effect, &change, before)?;
     Ok(out)
 }

@@ -3,18 +3,18 @@
 ghost use Rattle.std.specs.Prelude.{◌≡◌, ◌<◌, ◌≤◌, ◌+◌, ◌*◌, false, IfOk, length};
 ghost use Rattle.stack_depths.specs.Distances.{edges};
 ghost use Rattle.stack_depths.specs.States.{distances_in};
-ghost use Rattle.stack_facts.specs.Facts.{AreFacts, saves};
+ghost use Rattle.stack_facts.specs.Facts.{AreFacts, AreFactsBy, AreKeptFacts, saves};
 ghost use Rattle.stack_facts.specs.Sets.{IsPlain, IsTable};
 ghost use Rattle.stack_facts.specs.Ranks.{IsRanked};
 ghost use Rattle.stack_facts.specs.States.{facts_in};
 
-use crate::changes::change_of;
+use crate::changes::change_by;
 use crate::finding::{each_highest, no_slots};
 use crate::gathering::gather;
-use crate::passing::{entry_after, greatest, has_entry};
+use crate::passing::{entry_after, greatest, has_entry, has_slot};
 use crate::set_finding::{each_greatest, greatest_in};
-use crate::set_passing::{entries_alone, same_of, set_after};
-use crate::values::Slot;
+use crate::set_passing::{entries_alone, same_of, set_after, stands};
+use crate::values::{Clauses, Slot};
 use crate::word_passing::word_after;
 use asm_base::{NoMemory, Steps};
 use code_functions::CodeItem;
@@ -27,9 +27,11 @@ use std::marker::Model;
 use std::sync::ledger::Ledger;
 use work_lists::{Analysis, flow};
 
-/// The items of a function, their distances, and the slots that they can make.
+/// The items of a function, their distances, and the slots that they can make; and by which clauses
+/// they change facts.
 #[derive(Clone, Copy)]
 struct Passing<'a> {
+    clauses: Clauses,
     items: &'a [CodeItem],
     depths: &'a DepthTable,
     slots: &'a [Slot],
@@ -44,7 +46,8 @@ impl<'a> Analysis for Passing<'a> {
     type State = NumberSet;
 
     ghost rules = { λ passing.
-        fact_rules passing.items.now (distances_in passing.depths.now) passing.slots.now };
+        fact_rules passing.clauses passing.items.now (distances_in passing.depths.now)
+        passing.slots.now };
 
     fn enter(&self, alloc: Global) -> Result<NumberSet, AllocError> {
         let out = entries_alone(alloc, self.slots.len())?;
@@ -64,7 +67,9 @@ impl<'a> Analysis for Passing<'a> {
                 Ok(out)
             }
             Some(found) => {
-                let out = set_after(alloc, self.slots, self.depths, item, &found.effect, before)?;
+                let by = self.clauses;
+                let effect = &found.effect;
+                let out = set_after(alloc, by, self.slots, self.depths, item, effect, before)?;
                 Ok(out)
             }
         }
@@ -93,6 +98,7 @@ impl<'a> Analysis for Passing<'a> {
 /// The same, where a word has room for all facts.
 #[derive(Clone, Copy)]
 struct WordPassing<'a> {
+    clauses: Clauses,
     items: &'a [CodeItem],
     depths: &'a DepthTable,
     slots: &'a [Slot],
@@ -107,7 +113,8 @@ impl<'a> Analysis for WordPassing<'a> {
     type State = Word;
 
     ghost rules = { λ passing.
-        fact_rules passing.items.now (distances_in passing.depths.now) passing.slots.now };
+        fact_rules passing.clauses passing.items.now (distances_in passing.depths.now)
+        passing.slots.now };
 
     fn enter(&self, _alloc: Global) -> Result<Word, AllocError> {
         Ok(Word::six())
@@ -117,7 +124,11 @@ impl<'a> Analysis for WordPassing<'a> {
     fn after(&self, _alloc: Global, item: usize, before: &Word) -> Result<Word, AllocError> {
         match self.items.get(item) {
             None => Ok(before.first(6 + self.slots.len())),
-            Some(found) => Ok(word_after(self.slots, self.depths, item, &found.effect, before)),
+            Some(found) => {
+                let by = self.clauses;
+                let effect = &found.effect;
+                Ok(word_after(by, self.slots, self.depths, item, effect, before))
+            }
         }
     }
 
@@ -164,7 +175,7 @@ impl FactTable {
     ghost use Rattle.insn_effects.specs.Followed.{followed_by};
     ghost use Rattle.stack_depths.specs.States.{distances_in};
     ghost use Rattle.stack_facts.specs.Places.{change_of, writes};
-    ghost use Rattle.stack_facts.specs.Facts.{Fact, entry, facts_after, IsSlotOf};
+    ghost use Rattle.stack_facts.specs.Facts.{Fact, entry, slot, facts_after, IsSlotOf};
     ghost use Rattle.stack_facts.specs.States.{facts_in};
 
     /// Whether a register has its entry value at an item.
@@ -186,6 +197,24 @@ impl FactTable {
         }
     }
 
+    /// Whether the 8 bytes at a distance from the frame address hold a register's entry value at an item.
+    #[tactic(auto, unfolding(crate::specs::States::facts_in))]
+    pub fn has_slot(&self, item: usize, distance: u64, register: u8) -> bool
+        ensures { result ≡ facts_in self.now item (slot distance register) }
+    {
+        if self.by_words {
+            match self.words.get(item) {
+                Some(Some(word)) => has_slot(&self.slots, word, distance, register),
+                _ => false,
+            }
+        } else {
+            match self.sets.get(item) {
+                Some(Some(bits)) => stands(&self.slots, bits, Slot { distance, register }),
+                _ => false,
+            }
+        }
+    }
+
     /// Whether a register has its entry value after an item.
     #[tactic(auto, unfolding(crate::specs::States::facts_in))]
     pub fn has_entry_after(
@@ -200,7 +229,7 @@ impl FactTable {
             (change_of (followed_by effect.now) (distances_in depths.now item))
             (facts_in self.now item) (entry register) }
     {
-        let change = change_of(depths, item, effect);
+        let change = change_by(Clauses::Synthesis, depths, item, effect);
         if self.by_words {
             match self.words.get(item) {
                 Some(Some(word)) => entry_after(&self.slots, effect, &change, word, register),
@@ -274,6 +303,7 @@ impl FactTable {
 /// The sets of facts over a table of slots.
 fn sets<L: Ledger>(
     alloc: Global,
+    clauses: Clauses,
     graph: &Graph,
     items: &[CodeItem],
     depths: &DepthTable,
@@ -283,7 +313,7 @@ fn sets<L: Ledger>(
     requires table { IsTable items.now (distances_in depths.now) slots.now }
     requires ranked { IsRanked slots.now }
     ensures facts { IfOk result (λ states.
-        AreFacts graph.now items.now (distances_in depths.now)
+        AreFactsBy clauses graph.now items.now (distances_in depths.now)
         (facts_in (slots.now, states.items))) }
     ensures cost { IfOk result (λ _. steps.new ≤ steps.old
         + ((length slots.now + 7) * edges graph.now + 1)) }
@@ -295,6 +325,7 @@ fn sets<L: Ledger>(
     walks_are_listed();
     let ways = Ways { graph };
     let passing = Passing {
+        clauses,
         items,
         depths,
         slots,
@@ -306,6 +337,7 @@ fn sets<L: Ledger>(
 /// The facts over a table of few slots, in words.
 fn words<L: Ledger>(
     alloc: Global,
+    clauses: Clauses,
     graph: &Graph,
     items: &[CodeItem],
     depths: &DepthTable,
@@ -315,7 +347,7 @@ fn words<L: Ledger>(
     requires table { IsTable items.now (distances_in depths.now) slots.now }
     requires few { length slots.now < 58 }
     ensures facts { IfOk result (λ states.
-        AreFacts graph.now items.now (distances_in depths.now)
+        AreFactsBy clauses graph.now items.now (distances_in depths.now)
         (facts_in (slots.now, states.items))) }
     ensures cost { IfOk result (λ _. steps.new ≤ steps.old
         + ((length slots.now + 7) * edges graph.now + 1)) }
@@ -327,12 +359,46 @@ fn words<L: Ledger>(
     walks_are_listed();
     let ways = Ways { graph };
     let passing = WordPassing {
+        clauses,
         items,
         depths,
         slots,
     };
     let states = flow(alloc, &ways, &passing, steps)?;
     Ok(states)
+}
+
+/// The facts by these clauses.
+fn facts_by<L: Ledger>(
+    alloc: Global,
+    clauses: Clauses,
+    graph: &Graph,
+    items: &[CodeItem],
+    depths: &DepthTable,
+    steps: &mut Steps<L>,
+) -> Result<FactTable, NoMemory>
+    ensures facts { IfOk result (λ table.
+        AreFactsBy clauses graph.now items.now (distances_in depths.now) (facts_in table)) }
+    ensures cost { IfOk result (λ _. steps.new ≤ steps.old
+        + ((saves items.now (distances_in depths.now) + 7) * edges graph.now + 1)) }
+{
+    let slots = gather(alloc, items, depths)?;
+    if slots.len() < 58 {
+        let words = words(alloc, clauses, graph, items, depths, &slots, steps)?;
+        return Ok(FactTable {
+            slots,
+            by_words: true,
+            words,
+            sets: Vec::new(alloc),
+        });
+    }
+    let sets = sets(alloc, clauses, graph, items, depths, &slots, steps)?;
+    Ok(FactTable {
+        slots,
+        by_words: false,
+        words: Vec::new(alloc),
+        sets,
+    })
 }
 
 /// The facts that stand at each item of a function whose distances are these, in at most as many
@@ -349,21 +415,22 @@ pub fn facts<L: Ledger>(
     ensures cost { IfOk result (λ _. steps.new ≤ steps.old
         + ((saves items.now (distances_in depths.now) + 7) * edges graph.now + 1)) }
 {
-    let slots = gather(alloc, items, depths)?;
-    if slots.len() < 58 {
-        let words = words(alloc, graph, items, depths, &slots, steps)?;
-        return Ok(FactTable {
-            slots,
-            by_words: true,
-            words,
-            sets: Vec::new(alloc),
-        });
-    }
-    let sets = sets(alloc, graph, items, depths, &slots, steps)?;
-    Ok(FactTable {
-        slots,
-        by_words: false,
-        words: Vec::new(alloc),
-        sets,
-    })
+    facts_by(alloc, Clauses::Synthesis, graph, items, depths, steps)
+}
+
+/// The kept facts that stand at each item, of which a load leaves its slot standing, and an rsp that
+/// rises drops no slot; in as many steps.
+pub fn facts_kept<L: Ledger>(
+    alloc: Global,
+    graph: &Graph,
+    items: &[CodeItem],
+    depths: &DepthTable,
+    steps: &mut Steps<L>,
+) -> Result<FactTable, NoMemory>
+    ensures facts { IfOk result (λ table.
+        AreKeptFacts graph.now items.now (distances_in depths.now) (facts_in table)) }
+    ensures cost { IfOk result (λ _. steps.new ≤ steps.old
+        + ((saves items.now (distances_in depths.now) + 7) * edges graph.now + 1)) }
+{
+    facts_by(alloc, Clauses::Kept, graph, items, depths, steps)
 }

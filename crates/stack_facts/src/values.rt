@@ -14,6 +14,15 @@ pub struct Slot {
     pub register: u8,
 }
 
+/// By which clauses an item changes facts.
+#[derive(Clone, Copy)]
+pub(crate) enum Clauses {
+    /// By those of synthesis: all five.
+    Synthesis,
+    /// By those of kept facts: a load leaves its slot standing, and an rsp that rises drops no slot.
+    Kept,
+}
+
 /// What an item does, with the addresses that are known.
 #[derive(Clone, Copy)]
 pub(crate) struct Change {
@@ -25,6 +34,8 @@ pub(crate) struct Change {
     pub(crate) saved: Option<Slot>,
     /// The 8 bytes from which a register is loaded.
     pub(crate) loaded: Option<Slot>,
-    /// The distance of rsp where it rose.
+    /// The slot that a load drops.
+    pub(crate) freed: Option<Slot>,
+    /// The distance of rsp where it rose and drops the slots below it.
     pub(crate) floor: Option<u64>,
 }

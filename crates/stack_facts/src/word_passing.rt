@@ -9,10 +9,10 @@ ghost use Rattle.stack_facts.specs.Facts as spec;
 ghost use Rattle.stack_facts.specs.Sets.{holds_in, fact_at, place_of, IsPlain};
 ghost use Rattle.stack_facts.specs.Passing.{IsDropped, is_met, is_stored, is_lower, is_under, IsPut, IsMade, IsFreed};
 
-use crate::changes::{change_of, is_below, is_quiet, overlaps};
+use crate::changes::{change_by, is_below, is_quiet, overlaps};
 use crate::passing::{has_entry, has_slot};
 use crate::slots::place_of;
-use crate::values::{Change, Slot, Span};
+use crate::values::{Change, Clauses, Slot, Span};
 use insn_effects::{Effect, NONE};
 use number_sets::Word;
 use stack_depths::{DepthTable, FollowedAccess, FollowedMove, followed_load, followed_move};
@@ -230,15 +230,15 @@ fn with_saved(slots: &[Slot], word: Word, saved: Option<Slot>, before: &Word) ->
     }
 }
 
-/// Without a slot that stood, from which a register is loaded.
+/// Without a slot that stood, which a load frees.
 #[inline(always)]
 #[tactic(auto, using(crate::proofs::PassLemmas::loads_one, crate::proofs::PassLemmas::loads_unstood, crate::proofs::PassLemmas::loads_none))]
-fn unloaded(slots: &[Slot], word: Word, loaded: Option<Slot>, before: &Word) -> Word
+fn unfreed(slots: &[Slot], word: Word, freed: Option<Slot>, before: &Word) -> Word
     requires plain { IsPlain slots.now }
     requires few { length slots.now < 58 }
-    ensures { IsFreed slots.now loaded before.now word result }
+    ensures { IsFreed slots.now freed before.now word result }
 {
-    match loaded {
+    match freed {
         None => word,
         Some(slot) => {
             if has_slot(slots, before, slot.distance, slot.register) {
@@ -268,14 +268,15 @@ fn word_by(slots: &[Slot], effect: &Effect, change: &Change, before: &Word) -> W
     let stored = untouched(slots, known, change.stored);
     let cleared = not_below(slots, stored, change.cleared);
     let saved = with_saved(slots, cleared, change.saved, before);
-    let loaded = unloaded(slots, saved, change.loaded, before);
-    let risen = not_below(slots, loaded, change.floor);
+    let freed = unfreed(slots, saved, change.freed, before);
+    let risen = not_below(slots, freed, change.floor);
     risen.with_first(&entries)
 }
 
-/// The facts after an item at the distances that are known there.
+/// The facts after an item, by these clauses, at the distances that are known there.
 #[inline(always)]
 pub(crate) fn word_after(
+    clauses: Clauses,
     slots: &[Slot],
     depths: &DepthTable,
     item: usize,
@@ -284,18 +285,18 @@ pub(crate) fn word_after(
 ) -> Word
     requires plain { IsPlain slots.now }
     requires few { length slots.now < 58 }
-    requires saved { (n r : ℕ) → spec.is_at (places.change_of (followed_by effect.now)
+    requires saved { (n r : ℕ) → spec.is_at (places.change_by clauses (followed_by effect.now)
         (distances_in depths.now item)).saved n r ≡ true
         → place_of slots.now n r < length slots.now }
     ensures high { (k : ℕ) → 6 + length slots.now ≤ k → get_or result k false ≡ false }
     ensures at { (f : spec.Fact) → holds_in slots.now result f
         ≡ spec.facts_after (places.writes (followed_by effect.now))
-        (places.change_of (followed_by effect.now) (distances_in depths.now item))
+        (places.change_by clauses (followed_by effect.now) (distances_in depths.now item))
         (holds_in slots.now before.now) f }
 {
     if is_quiet(effect) {
         return before.first(6 + slots.len());
     }
-    let change = change_of(depths, item, effect);
+    let change = change_by(clauses, depths, item, effect);
     word_by(slots, effect, &change, before)
 }

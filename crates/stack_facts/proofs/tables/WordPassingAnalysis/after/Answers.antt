@@ -1,7 +1,7 @@
 use Rattle.std.proofs.Common.{◌≡◌, ◌+◌, ◌≤◌, Some, length, slice_get, refl, sym, ap, ◌∙◌, arith}
 use Rattle.std.proofs.lemmas.Option.{slice_get_past, slice_get_read}
 use Rattle.stack_depths.specs.States.{distances_in}
-use Rattle.stack_facts.specs.Facts.{is_at, facts_over, saved_over}
+use Rattle.stack_facts.specs.Facts.{is_at, facts_over_by, saved_over}
 use Rattle.stack_facts.specs.Sets.{holds_in}
 use Rattle.stack_facts.specs.States.{fact_rules}
 use Rattle.stack_facts.proofs.SetLemmas.{few_counted}
@@ -19,8 +19,8 @@ returns-in-None-clause-holds c =
     let past : length s.items.now ≤ c.args.item = let y = x.3 in omega arith in
     let none = slice_get_past s.items.now c.args.item past in
     let known = distances_in s.depths.now c.args.item in
-    after_case (slice_get s.items.now c.args.item) known s.slots.now c.args.before.now c.first.result
-    (λ f. stays s.slots.now c.args.before.now c.first.result c.first.ensures.low f ∙ ap (λ o. facts_over o known (holds_in s.slots.now c.args.before.now) f) (sym none))
+    after_case s.clauses (slice_get s.items.now c.args.item) known s.slots.now c.args.before.now c.first.result
+    (λ f. stays s.slots.now c.args.before.now c.first.result c.first.ensures.low f ∙ ap (λ o. facts_over_by s.clauses o known (holds_in s.slots.now c.args.before.now) f) (sym none))
 
 pub returns-in-None-clause-weight : goal.returns-in-None-clause-weight
 unfolding fact_rules
@@ -45,8 +45,8 @@ returns-in-Some-clause-holds c =
     let known = distances_in s.depths.now c.args.item in
     let there : slice_get s.items.now c.args.item ≡ Some c.in-Some.found.now = slice_get_read s.items.now (length s.items.now) c.args.item c.in-Some.found.now refl x.3.0 x.1 in
     let stood = holds_in s.slots.now c.args.before.now in
-    after_case (slice_get s.items.now c.args.item) known s.slots.now c.args.before.now c.word_after.result
-    (λ f. c.word_after.ensures.at f ∙ ap (λ o. facts_over o known stood f) (sym there))
+    after_case s.clauses (slice_get s.items.now c.args.item) known s.slots.now c.args.before.now c.word_after.result
+    (λ f. c.word_after.ensures.at f ∙ ap (λ o. facts_over_by s.clauses o known stood f) (sym there))
 
 pub returns-in-Some-clause-weight : goal.returns-in-Some-clause-weight
 unfolding fact_rules

@@ -2,7 +2,7 @@ use Rattle.std.proofs.Common.{◌+◌, ◌*◌, ◌≤◌, ℕ, length, ap, arit
 use Rattle.stack_depths.specs.Distances.{edges}
 use Rattle.stack_depths.specs.States.{distances_in}
 use Rattle.stack_facts.specs.Facts.{saves}
-use Rattle.stack_facts.proofs.tables.facts.Goals as goal
+use Rattle.stack_facts.proofs.tables.facts_by.Goals as goal
 
 more : (a b n : ℕ) → a ≤ b → (a + 7) * n ≤ (b + 7) * n
 more a b n h =
