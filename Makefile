@@ -32,17 +32,18 @@ demo:
 check:
 	rt ci
 
-# What no clause can say: the built program on files and devices that fail, and its objects linked by gcc, those of
-# random C programs with them, and the frame tables of these, also step by step beside what calls really saved, and
-# their line tables as debuggers read them. Random expressions beside Python's integers, and the objects of random
-# sources, those with macros too, and the code of random instructions beside those of the machine's GNU as, and
-# beside their Intel forms. Hostile sources, of random bytes and words and of real ones with parts changed; runs in
-# which one allocation is refused. The rows of the instruction table beside the machine's objdump, and what is made
-# of them: a document, and the indices and keys by which they are found. The functions of the rows of the analysis
-# of the stack beside a model. The examples of README and docs/USING.md.
+# What no clause can say: the built program on files and streams that fail, and in little memory, and its objects
+# linked by gcc, those of random C programs with them, and the frame tables of these, also step by step beside what
+# calls really saved, and their line tables as debuggers read them. Random expressions beside Python's integers, and
+# the objects of random sources, those with macros too, and the code of random instructions beside those of the
+# machine's GNU as, and beside their Intel forms. Hostile sources, of random bytes and words and of real ones with
+# parts changed; runs in which one allocation is refused. The rows of the instruction table beside the machine's
+# objdump, and what is made of them: a document, and the indices and keys by which they are found. The functions of the
+# rows of the analysis of the stack beside a model. The examples of README and docs/USING.md.
 check-outside: all
 	checks/examples.py build/as
 	checks/outside.sh build/as
+	checks/limits.sh build/as
 	checks/tables.sh build/as
 	checks/gcc.sh build/gcc
 	checks/weak_alias.sh build/gcc

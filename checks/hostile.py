@@ -3,8 +3,8 @@
 
     checks/hostile.py --ours build/as [--gnu /usr/bin/as] [--count 2000] [--seed 1] [--keep DIR]
 
-So many sources are made of bytes and tokens, and as many of what gcc writes of `bench/programs.c` and `bench/c_programs.py` in both syntaxes, with debug information, and of hand-written functions under
-`--scfi=experimental`; each from the seed and its number alone. Looked at is how our program ends: by a status from 0 to 5 within 10 seconds; with 1, by messages of the known form, and no object; with 0,
+So many sources are made of bytes and tokens, and as many of what gcc writes of `bench/programs.c` and `bench/c_programs.py`, and g++ of `bench/templates.cc` and `checks/cxx`, in both syntaxes, with debug
+information, and under `--scfi=experimental`, also of functions written by hand; each from the seed and its number alone. Looked at is how our program ends: by a status from 0 to 5 within 10 seconds; with 1, by messages of the known form, and no object; with 0,
 by an object of which `readelf -a` warns no more than of GNU as's, or of nothing where GNU as makes none; with at most twice the memory of GNU as and of the source, beside 16 MiB. Prints a line for each source that
 is answered otherwise, and where it is kept, and how many objects of both say the same (`facts` of checks/compare.py) beside frame tables and line tables: what else they may say otherwise is in docs/COMPATIBILITY.md. Ends with 1 where an answer is wrong.
 """
@@ -74,14 +74,23 @@ def random_bytes(rng: random.Random) -> bytes:
 
 
 def real_sources(folder: pathlib.Path) -> list[tuple[bytes, tuple[str, ...]]]:
-    """What gcc writes of some programs, and functions written by hand, each with the words that it is assembled with."""
+    """What gcc and g++ write of some programs, and functions written by hand, each with the words that it is assembled with."""
     made: list[tuple[bytes, tuple[str, ...]]] = []
     programs = [(HERE.parent / "bench" / "programs.c").read_text(encoding="utf-8"), c_program(3), c_program(8)]
+    debug = ["-O2", "-g", "-gno-variable-location-views"]
+
+    def compile(source: str, *words: str) -> bytes:
+        command = ["g++", "-std=c++17", "-fno-gnu-unique"] if source.endswith(".cc") else ["gcc"]
+        return subprocess.run([*command, "-S", "-w", "-mtune=nehalem", *words, "-o", "-", source], cwd=folder, capture_output=True, env=ENVIRONMENT, check=True).stdout
+
     for number, text in enumerate(programs):
         (folder / f"{number}.c").write_text(text, encoding="utf-8")
-        for words in (["-O0"], ["-O2"], ["-O2", "-masm=intel"], ["-O2", "-g", "-gno-variable-location-views"]):
-            compiled = subprocess.run(["gcc", "-S", "-w", "-mtune=nehalem", *words, "-o", "-", f"{number}.c"], cwd=folder, capture_output=True, env=ENVIRONMENT, check=True)
-            made.append((compiled.stdout, ()))
+        for words in (["-O0"], ["-O2"], ["-O2", "-masm=intel"], debug):
+            made.append((compile(f"{number}.c", *words), ()))
+        made.append((compile(f"{number}.c", "-O2"), (SCFI,)))
+    for name in ("bench/templates.cc", "checks/cxx/main.cc", "checks/cxx/throwing.cc"):
+        for words in (["-O2"], ["-O2", "-masm=intel"], debug):
+            made.append((compile(str(HERE.parent / name), *words), ()))
     made.append(((HERE / "steps.s").read_bytes(), (SCFI,)))
     made.append(((HERE.parent / "examples" / "tables.s").read_bytes(), ()))
     return made
@@ -167,8 +176,8 @@ def main() -> int:
     parser.add_argument("--seed", metavar="N", type=int, default=1, help="the number of the first source (default 1)")
     parser.add_argument("--keep", metavar="DIR", type=pathlib.Path, help="where the sources are kept that fail; else a new folder")
     options = parser.parse_args()
-    if not shutil.which("gcc") or not shutil.which("readelf"):
-        print("no gcc or no readelf on PATH: no source is made")
+    if not all(shutil.which(name) for name in ("gcc", "g++", "readelf")):
+        print("no gcc, g++ or readelf on PATH: no source is made")
         return 0
     kept, failed, counts = options.keep, 0, {"refused": 0, "objects": 0, "both": 0, "alike": 0}
     with tempfile.TemporaryDirectory() as room:

@@ -40,7 +40,13 @@ MACROS = """.macro frame size, save:req, clear=0
 .endr
 """
 FUNCTION = ".type f,@function\nf: push %rbp\nmov %rsp,%rbp\npush %rbx\ncall g\ntest %eax,%eax\nje 1f\nmov $1,%eax\n1: pop %rbx\npop %rbp\nret\n.size f,.-f\n"
+FRAME = ".type f,@function\nf: %spush %%rbp\nmov %%rsp,%%rbp\npop %%rbp\nret\n.size f,.-f\n"
+INCLUDED = "nop\n.long a, .-a\n"
 SOURCES = {
+    "both syntaxes": "mov 8(%rbx,%rcx,4),%rax\n.intel_syntax noprefix\nmov rax, QWORD PTR [rbx+rcx*4+8]\n",
+    "two faults": "foo\nbar\n",
+    "procedure": ".cfi_startproc; push %rbp; .cfi_def_cfa_offset 16; .cfi_offset 6,-16; mov %rsp,%rbp; .cfi_def_cfa_register 6; pop %rbp; .cfi_def_cfa 7,8; ret; .cfi_endproc\n",
+    "included file": "a: .include \"a.inc\"\n",
     "data": ".globl a\na: .byte 1, 2\n.quad a+8, b\n.long b-a\n.section .rodata.x,\"aMS\",@progbits,1\n.string \"text\"\n.comm c,8,8\n.set d,a+4\n.uleb128 2f-1f\n1: .zero 200\n2:\n",
     "code": ".text\nf: push %rbp\nmov %rsp,%rbp\njmp 1f\n.p2align 4\n1: call g@PLT\nmovl $5,x(%rip)\nlea 8(%rax,%rcx,4),%rdx\njne f\nret\n",
     "fault": "nop\n.byte 1/0\n",
@@ -50,11 +56,18 @@ SOURCES = {
 
 
 def sources() -> dict[str, tuple[str, tuple[str, ...]]]:
-    """The sources with the words before their names."""
-    made: dict[str, tuple[str, tuple[str, ...]]] = {name: (text, ()) for name, text in SOURCES.items()}
-    made["function"] = (FUNCTION, (SCFI,))
-    made["gcc -g"] = (compiled("-mtune=nehalem", "-g", "-gno-variable-location-views", str(PROGRAMS)), ())
-    made["g++"] = (compiled("-std=c++17", "-fno-gnu-unique", "-mtune=nehalem", str(TEMPLATES), compiler="g++"), ())
+    """The sources, each with the words of the command line."""
+    made: dict[str, tuple[str, tuple[str, ...]]] = {name: (text, ("x.s",)) for name, text in SOURCES.items()}
+    made["function"] = (FUNCTION, (SCFI, "x.s"))
+    made["function with a frame pointer"] = (FRAME % "", (SCFI, "x.s"))
+    made["ignored directive"] = (FRAME % ".cfi_startproc; ", (SCFI, "x.s"))
+    made["refused warning"] = (FRAME % ".cfi_startproc; ", (SCFI, "--fatal-warnings", "x.s"))
+    made["source that the program makes"] = ("", ("--self-load", "7"))
+    made["usage"] = ("", ("--no-such-option",))
+    made["gcc -g"] = (compiled("-mtune=nehalem", "-g", "-gno-variable-location-views", str(PROGRAMS)), ("x.s",))
+    made["gcc, tables worked out"] = (compiled("-mtune=nehalem", str(PROGRAMS)), (SCFI, "x.s"))
+    made["gcc -masm=intel"] = (compiled("-mtune=nehalem", "-masm=intel", str(PROGRAMS)), ("x.s",))
+    made["g++"] = (compiled("-std=c++17", "-fno-gnu-unique", "-mtune=nehalem", str(TEMPLATES), compiler="g++"), ("x.s",))
     return made
 
 
@@ -63,7 +76,7 @@ def run(program: str, words: tuple[str, ...], folder: str, refused: int) -> tupl
     place = tempfile.mkdtemp(dir=folder)
     counted, made = f"{place}/counted", f"{place}/x.o"
     environment = {**ENVIRONMENT, "LD_PRELOAD": f"{folder}/refusing.so", "REFUSED": str(refused), "COUNTED": counted}
-    ended = subprocess.run([program, *words, "-o", made, "x.s"], cwd=folder, env=environment, stdin=subprocess.DEVNULL, stdout=subprocess.PIPE, stderr=subprocess.STDOUT, check=False)
+    ended = subprocess.run([program, "-o", made, *words], cwd=folder, env=environment, stdin=subprocess.DEVNULL, stdout=subprocess.PIPE, stderr=subprocess.STDOUT, check=False)
     data = pathlib.Path(made).read_bytes() if os.path.exists(made) else None
     return ended.returncode, ended.stdout, data, int(pathlib.Path(counted).read_text())
 
@@ -84,6 +97,7 @@ def main() -> int:
         with tempfile.TemporaryDirectory() as folder, ThreadPoolExecutor(options.jobs) as pool:
             subprocess.run(["gcc", "-shared", "-fPIC", "-O1", "-o", f"{folder}/refusing.so", str(HERE / "refusing.c")], check=True)
             pathlib.Path(folder, "x.s").write_text(text)
+            pathlib.Path(folder, "a.inc").write_text(INCLUDED)
             status, said, made, count = run(program, words, folder, 0)
             answers: Counter[str] = Counter()
             numbers = tried(count, options.most)
