@@ -15,4 +15,4 @@ mod word_passing;
 
 pub use changes::{is_below, is_quiet, overlaps, stack_after, stored_at};
 pub use tables::{FactTable, facts, facts_kept};
-pub use values::Span;
+pub use values::{Clauses, Span};

@@ -16,7 +16,7 @@ pub struct Slot {
 
 /// By which clauses an item changes facts.
 #[derive(Clone, Copy)]
-pub(crate) enum Clauses {
+pub enum Clauses {
     /// By those of synthesis: all five.
     Synthesis,
     /// By those of kept facts: a load leaves its slot standing, and an rsp that rises drops no slot.
