@@ -1,0 +1,4 @@
+pub mod RankLemmas
+pub mod RowLemmas
+pub mod WorkedLemmas
+pub mod CheckLemmas
