@@ -1,5 +1,5 @@
 -- The statements of a source before its first word of expansion, which are placed one after the other.
-use Rattle.std.specs.Prelude.{◌≡◌, ◌≢◌, ℕ, ◌≤◌, List, [], ◌∷◌, length, map, Option, None, Result, Ok, Err}
+use Rattle.std.specs.Prelude.{◌≡◌, ◌≢◌, ℕ, ◌+◌, ◌≤◌, List, [], ◌∷◌, length, map, Option, None, Result, Ok, Err}
 use Rattle.asm_base.specs.Inputs.{Contents}
 use Rattle.asm_base.specs.declared.refusals.Refusal.TheVariants as refusal
 use Rattle.asm_lines.specs.LineNumbers.{line_of}
@@ -50,6 +50,11 @@ StopsAt placed told source placer after (stop.Refused (refusal.Fault fault)) =
 StopsAt placed told source placer after (stop.Refused refusal.NoMemory) = Unit {0}
 StopsAt placed told source placer after stop.Faulty = found_left source 0 ≢ None
 StopsAt placed told source placer after stop.NoMemory = Unit {0}
+
+-- the most turns of the list up to where placing stopped
+abbrev pub most_turned : {F : Type 0} → Stop F → ℕ
+most_turned (stop.Word at line given) = given
+most_turned _ = most_given + 1
 
 -- the lines of a source have no fault, or this is the first
 abbrev pub ChecksLines : {F : Type 0} → List ℕ → Result (Unit {0}) (ExpandFault F) → Type 0

@@ -62,6 +62,11 @@ Grows turned.Stays old new = old < new
 Grows (turned.Enters inner) old new = old < new
 Grows turned.Leaves old new = old ≤ new
 
+-- the end mark that left the list with the statements, where the part is gone
+abbrev pub end_marks : Turned → ℕ
+end_marks turned.Leaves = 1
+end_marks _ = 0
+
 -- another part stands in front
 abbrev pub Enters : Turned → Type 0
 Enters (turned.Enters inner) = Unit {0}

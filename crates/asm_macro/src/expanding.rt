@@ -7,10 +7,12 @@ ghost use Rattle.asm_macro.specs.Placing.{expansion};
 ghost use Rattle.asm_macro.specs.Expanding.{IsExpansion, HasExpansionCause, CountsMisses, KeepsMissing, ReadsIncludes, StartsIncludes, TakesIncludes, TakesTooLarge};
 
 use crate::faults::ExpandFault;
-use crate::sources::expand_text;
+use crate::sources::expand_alone;
 use asm_base::{Files, Inputs, Text};
 use macro_words::KnowingPlacer;
 use std::alloc::Global;
+use std::marker::Brand;
+use std::sync::ledger::Blank;
 
 /// Places each statement that the list of a source comes to, in order (GNU as manual, ".macro", ".rept", ".irp", ".irpc",
 /// ".if", ".include"). The source is the one file that was started; the files that it includes go behind it.
@@ -40,5 +42,5 @@ pub fn expand_source<P: KnowingPlacer, I: Inputs>(
     ensures whole { IsAtEnd (I.rest ins.old) → OnOk result (IsAtEnd (I.rest ins.new)) }
     ensures started { 0 < length files.new }
 {
-    expand_text(alloc, text, files, placer, ins)
+    expand_alone::<P, I, Brand>(alloc, text, files, placer, ins, Blank::new(1))
 }

@@ -1,13 +1,15 @@
 //! The statements of a source before its first word of expansion, placed in one pass over its bytes.
 
-ghost use Rattle.asm_macro.specs.Fronts.{ChecksLines, StopsAt};
+ghost use Rattle.std.specs.Prelude.{◌+◌, ◌≤◌};
+ghost use Rattle.asm_macro.specs.Fronts.{ChecksLines, StopsAt, most_turned};
 
 use crate::faults::ExpandFault;
 use crate::rewriting::MOST_GIVEN;
-use asm_base::{Pos, Refusal, Text};
+use asm_base::{Pos, Refusal, Steps, Text};
 use asm_lines::{NextStatement, fault_of_lines, next_statement};
 use macro_words::{KnowingPlacer, labels_length, word_of_head};
 use std::alloc::Global;
+use std::sync::ledger::Ledger;
 
 /// Where placing stopped, and why.
 #[derive(Drop)]
@@ -38,13 +40,15 @@ pub(crate) fn check_lines<F: Drop>(alloc: Global, text: &Text) -> Result<(), Exp
     }
 }
 
-/// Places the statements of a source up to its first word of expansion.
-pub(crate) fn place_front<P: KnowingPlacer>(
+/// Places the statements of a source up to its first word of expansion. A step is a statement that leaves the list, or its end mark.
+pub(crate) fn place_front<P: KnowingPlacer, L: Ledger>(
     alloc: Global,
     source: &[u8],
     placer: &mut P,
+    steps: &mut Steps<L>,
 ) -> Stop<P::Fault>
-    ensures { StopsAt P.placed P.told source.now placer.old placer.new result }
+    ensures turns { steps.new ≤ steps.old + most_turned result }
+    ensures stops { StopsAt P.placed P.told source.now placer.old placer.new result }
 {
     let mut tokens = Vec::new(alloc);
     let mut at = 0;
@@ -59,6 +63,7 @@ pub(crate) fn place_front<P: KnowingPlacer>(
                 if word_of_head(&statement[labels..]).is_some() {
                     return Stop::Word(at, line, given);
                 }
+                steps.tick();
                 if given >= MOST_GIVEN {
                     return Stop::TooLong(here);
                 }
@@ -73,7 +78,10 @@ pub(crate) fn place_front<P: KnowingPlacer>(
                 at = next;
                 line = there;
             }
-            Ok(NextStatement::End) => return Stop::End,
+            Ok(NextStatement::End) => {
+                steps.tick();
+                return Stop::End;
+            }
             Ok(NextStatement::Faulty) => return Stop::Faulty,
         }
     }

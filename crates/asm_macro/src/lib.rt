@@ -29,3 +29,4 @@ pub use laws::{
     expansions_end, handed_statements_are_placed, lists_stay_shallow, one_outcome,
     plain_statements_are_placed,
 };
+pub use sources::counted_expand_source;

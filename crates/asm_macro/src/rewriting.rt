@@ -125,6 +125,7 @@ impl Expander {
             (input_by I.contents I.rest I.faults I.missing I.taken I.history ins.old)
             (input_by I.contents I.rest I.faults I.missing I.taken I.history ins.new) }
         ensures given { OnOk result (self.new.given ≡ self.old.given + 1) }
+        ensures later { self.old.given ≤ self.new.given }
         ensures parts { vec_len self.new.frames ≤ vec_len self.old.frames }
         ensures few { KeepsFew (level_of frame.old) (state_of self.old)
             result (level_of frame.new) (state_of self.new) }

@@ -1,11 +1,11 @@
 //! Statements are taken off the list one after the other, up to its end.
 
-ghost use Rattle.std.specs.Prelude.{◌≡◌, ◌∷◌, ◌<◌, ◌≤◌, ◌+◌, IfOk, OnOk, Ok, vec_len};
+ghost use Rattle.std.specs.Prelude.{◌≡◌, ◌∷◌, ◌<◌, ◌≤◌, ◌+◌, ◌*◌, IfOk, OnOk, Ok, vec_len};
 ghost use Rattle.macro_blocks.specs.Frames.{copies_left, level_of, text_in};
 ghost use Rattle.asm_macro.specs.declared.turned.Turned.TheVariants as turned;
-ghost use Rattle.asm_macro.specs.Expansion.{under};
+ghost use Rattle.asm_macro.specs.Expansion.{most_given, under};
 ghost use Rattle.asm_macro.specs.Readings.{input_by};
-ghost use Rattle.asm_macro.specs.Running.{Enters, Expands, Grows, RunsFrom};
+ghost use Rattle.asm_macro.specs.Running.{Enters, Expands, Grows, RunsFrom, end_marks};
 ghost use Rattle.asm_macro.specs.OpenParts.{AreFew, WereFew};
 ghost use Rattle.asm_macro.specs.Turning.{KeepsFew, TakesOne, TakesPart, state_of};
 
@@ -13,19 +13,22 @@ use crate::expander::Expander;
 use crate::faults::ExpandFault;
 use crate::open_parts::Part;
 use crate::turned::Turned;
-use asm_base::Inputs;
+use asm_base::{Inputs, Steps};
 use macro_blocks::{Frame, Taken};
 use macro_words::{KnowingPlacer, MacroCause, labels_length};
 use std::alloc::AllocError;
+use std::sync::ledger::Ledger;
 
 impl Expander {
-    /// Takes statements off a text, up to the first that changes what is open, or the next text.
-    fn run_text<P: KnowingPlacer, I: Inputs>(
+    /// Takes statements off a text, up to the first that changes what is open, or the next text. A step is a statement or an end
+    /// mark that leaves the list.
+    fn run_text<P: KnowingPlacer, I: Inputs, L: Ledger>(
         &mut self,
         source: &[u8],
         frame: &mut Frame,
         placer: &mut P,
         ins: &mut I,
+        steps: &mut Steps<L>,
     ) -> Result<Turned, ExpandFault<P::Fault>>
         requires { source.now ≡ text_in frame.old }
         ensures run { RunsFrom P.placed P.told (I.contents ins.old)
@@ -35,6 +38,9 @@ impl Expander {
             (input_by I.contents I.rest I.faults I.missing I.taken I.history ins.new) }
         ensures given { OnOk result (self.old.given ≤ self.new.given) }
         ensures grows { IfOk result (λ turned. Enters turned → self.old.given < self.new.given) }
+        ensures turns { steps.new + self.old.given ≤ steps.old + self.new.given + 1 }
+        ensures turned { IfOk result (λ turned.
+            steps.new + self.old.given ≤ steps.old + self.new.given + end_marks turned) }
         ensures copies { result ≡ Ok turned.Stays → self.new.given ≡ self.old.given
             → copies_left frame.new < copies_left frame.old }
         ensures parts { vec_len self.new.frames ≤ vec_len self.old.frames }
@@ -46,13 +52,14 @@ impl Expander {
             match frame.take(source, &mut tokens) {
                 Err(_) => return Err(ExpandFault::NoMemory),
                 Ok(Taken::Statement(pos, count)) => {
+                    steps.tick();
                     let statement = &tokens.as_slice()[..count];
                     let labels = labels_length(statement);
                     match self.head(&statement[labels..]) {
                         Err(_) => return Err(ExpandFault::NoMemory),
                         Ok(Some(head)) => {
                             return self.turn_head(
-                                &head, pos, statement, labels, frame, placer, ins,
+                                &head, pos, statement, labels, frame, placer, ins, steps,
                             );
                         }
                         Ok(None) => {
@@ -69,6 +76,7 @@ impl Expander {
                     return Ok(Turned::Stays);
                 }
                 Ok(Taken::End) => {
+                    steps.tick();
                     if let Some(first) = frame.outermost() {
                         return Err(ExpandFault::Expansion(MacroCause::UnclosedBlock, first));
                     }
@@ -79,11 +87,12 @@ impl Expander {
     }
 
     /// Takes statements off a part, up to the first that changes what is open or the text.
-    fn run_part<P: KnowingPlacer, I: Inputs>(
+    fn run_part<P: KnowingPlacer, I: Inputs, L: Ledger>(
         &mut self,
         frame: &mut Frame,
         placer: &mut P,
         ins: &mut I,
+        steps: &mut Steps<L>,
     ) -> Result<Turned, ExpandFault<P::Fault>>
         ensures run { RunsFrom P.placed P.told (I.contents ins.old)
             (under (level_of frame.old) (state_of self.old)) placer.old
@@ -91,6 +100,9 @@ impl Expander {
             (input_by I.contents I.rest I.faults I.missing I.taken I.history ins.old)
             (input_by I.contents I.rest I.faults I.missing I.taken I.history ins.new) }
         ensures grows { IfOk result (λ turned. Grows turned self.old.given self.new.given) }
+        ensures turns { steps.new + self.old.given ≤ steps.old + self.new.given + 1 }
+        ensures turned { IfOk result (λ turned.
+            steps.new + self.old.given ≤ steps.old + self.new.given + end_marks turned) }
         ensures parts { vec_len self.new.frames ≤ vec_len self.old.frames }
         ensures few { KeepsFew (level_of frame.old) (state_of self.old)
             result (level_of frame.new) (state_of self.new) }
@@ -101,7 +113,7 @@ impl Expander {
                 Ok(text) => text,
                 Err(_) => return Err(ExpandFault::NoMemory),
             };
-            match self.run_text(text.as_bytes(), frame, placer, ins) {
+            match self.run_text(text.as_bytes(), frame, placer, ins, steps) {
                 Ok(Turned::Stays) => {
                     if self.given != given {
                         return Ok(Turned::Stays);
@@ -154,19 +166,22 @@ impl Expander {
     }
 
     /// Places each statement that the list comes to, up to its end.
-    pub(crate) fn expand<P: KnowingPlacer, I: Inputs>(
+    pub(crate) fn expand<P: KnowingPlacer, I: Inputs, L: Ledger>(
         &mut self,
         placer: &mut P,
         ins: &mut I,
+        steps: &mut Steps<L>,
     ) -> Result<(), ExpandFault<P::Fault>>
-        ensures { Expands P.placed P.told (I.contents ins.old) (state_of self.old) placer.old
-            result self.new.files placer.new
+        ensures turns { steps.new + 2 * self.old.given
+            ≤ steps.old + vec_len self.old.frames + 2 * most_given }
+        ensures expands { Expands P.placed P.told (I.contents ins.old)
+            (state_of self.old) placer.old result self.new.files placer.new
             (input_by I.contents I.rest I.faults I.missing I.taken I.history ins.old)
             (input_by I.contents I.rest I.faults I.missing I.taken I.history ins.new) }
     {
         'parts: while let Some(part) = self.take_part() {
             let mut frame = part.into_frame();
-            match self.run_part(&mut frame, placer, ins) {
+            match self.run_part(&mut frame, placer, ins, steps) {
                 Ok(Turned::Stays) => {
                     if let Err(_) = self.put_part(Part::with_frame(frame)) {
                         return Err(ExpandFault::NoMemory);

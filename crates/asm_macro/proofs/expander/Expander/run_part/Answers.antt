@@ -15,7 +15,7 @@ use Rattle.asm_macro.proofs.Wholes.{read_none}
 use Rattle.asm_macro.proofs.expander.Expander.run_part.Goals as goal
 
 pub copies-init : goal.copies-init
-copies-init g c = record { done = (0, inl (steps_none g.P.Placer.placed g.P.KnowingPlacer.told (g.I.Inputs.contents c.args.ins.now) _ _)); read = read_none c.args.self.now.files _; given = refl; parts = omega arith; shallow = λ few. few }
+copies-init g c = record { done = (0, inl (steps_none g.P.Placer.placed g.P.KnowingPlacer.told (g.I.Inputs.contents c.args.ins.now) _ _)); read = read_none c.args.self.now.files _; given = refl; turns = omega arith; parts = omega arith; shallow = λ few. few }
 
 pub returns-then-self-given-clause-run : goal.returns-then-self-given-clause-run
 returns-then-self-given-clause-run g c =
@@ -58,7 +58,7 @@ copies-preserved g c =
     let Leaves : Turned → Type 0 = λ turned. KeepsFew {E = ExpandFault g.row.P-Fault.Denot} (level_of c.copies.frame) (state_of c.copies.self) (Ok turned) (level_of c.run_text.new.frame) (state_of c.run_text.new.self) in
     let fewer = c.copies.invariant.parts in
     let parts = c.run_text.ensures.parts in
-    record { done = (made.0, made.1.comes); read = made.1.uses; given = search rules; parts = omega (arith, fewer, parts); shallow = λ few. subst Leaves c.in-Ok-Stays.field-0-is c.in-Ok-Stays.ensures.few (c.copies.invariant.shallow few) }
+    record { done = (made.0, made.1.comes); read = made.1.uses; given = search rules; turns = search rules; parts = omega (arith, fewer, parts); shallow = λ few. subst Leaves c.in-Ok-Stays.field-0-is c.in-Ok-Stays.ensures.few (c.copies.invariant.shallow few) }
 
 pub returns-then-self-given-clause-few : goal.returns-then-self-given-clause-few
 returns-then-self-given-clause-few g c = λ few.

@@ -25,7 +25,7 @@ use Rattle.asm_macro.proofs.Runs.{steps_none}
 use Rattle.asm_macro.proofs.expander.Expander.run_text.Goals as goal
 
 pub statements-init : goal.statements-init
-statements-init g c = record { done = (0, steps_none g.P.Placer.placed g.P.KnowingPlacer.told (g.I.Inputs.contents c.args.ins.now) _ _); text = c.requires; copies = refl; files = refl; given = omega arith; ins = refl; parts = omega arith; shallow = λ few. few }
+statements-init g c = record { done = (0, steps_none g.P.Placer.placed g.P.KnowingPlacer.told (g.I.Inputs.contents c.args.ins.now) _ _); text = c.requires; copies = refl; files = refl; given = omega arith; turns = omega arith; ins = refl; parts = omega arith; shallow = λ few. few }
 
 -- what was asked for behind the labels, of what stands behind them
 of_behind : (found : Option Head) (macros : List MacroAs) (n : ℕ) (tokens : List Token) (behind : List SpelledToken) → drop n (map spelled tokens) ≡ behind → IsHead found (map spelled (take (length tokens - n) (drop n tokens))) macros → IsHead found behind macros
@@ -99,6 +99,8 @@ statements-preserved g c =
     let now = handed.2 in
     let given = ap (λ m. m.given) now in
     let before = c.statements.invariant.given in
+    let turns = c.statements.invariant.turns in
+    let turn = c.tick.ensures in
     let fewer = c.statements.invariant.parts in
     let parts = c.hand_out.ensures.parts in
     record {
@@ -107,6 +109,7 @@ statements-preserved g c =
       copies = c.take.ensures.copies ∙ c.statements.invariant.copies;
       files = ap (λ m. m.files) now ∙ c.statements.invariant.files;
       given = omega (arith, given, before);
+      turns = omega (arith, given, turns, turn);
       ins = c.statements.invariant.ins;
       parts = omega (arith, fewer, parts);
       shallow = λ few. subst (λ below. AreFew (level_of c.take.new.self ∷ below)) (sym (ap (λ m. m.levels) now))

@@ -1,5 +1,5 @@
 -- The statements that were taken off are placed.
-use Rattle.std.proofs.Common.{◌≡◌, ℕ, ◌≤◌, ◌-◌, ◌∷◌, vec_len}
+use Rattle.std.proofs.Common.{◌≡◌, ℕ, ◌≤◌, ◌+◌, ◌-◌, ◌∷◌, vec_len}
 use Rattle.macro_blocks.specs.Frames.{copies_left, level_of, text_in}
 use Rattle.asm_macro.specs.Expansion.{under, most_given}
 use Rattle.asm_macro.specs.OpenParts.{AreFew}
@@ -14,6 +14,7 @@ invariant-statements g l = record {
   copies : copies_left l.frame ≡ copies_left l.fn.frame;
   files : l.self.files ≡ l.fn.self.files;
   given : l.fn.self.given ≤ l.self.given;
+  turns : l.steps + l.fn.self.given ≤ l.fn.steps + l.self.given;
   ins : l.ins ≡ l.fn.ins;
   parts : vec_len l.self.frames ≤ vec_len l.fn.self.frames;
   shallow : AreFew (level_of l.fn.frame ∷ (state_of l.fn.self).levels) → AreFew (level_of l.frame ∷ (state_of l.self).levels);
