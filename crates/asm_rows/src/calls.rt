@@ -1,9 +1,9 @@
-//! A row run again and again, each time with another call of the outside that fails.
+//! A row run again and again, each time with another call of the outside that fails, and once more one byte a call.
 
 use crate::runs::{Failing, Ran, run_row};
 use asm_base::{Channel, Status};
 use memory_outside::{MemoryFile, Stage};
-use row_texts::{Row, write_line, write_text};
+use row_texts::{Pieces, Row, write_line, write_text};
 use std::alloc::Global;
 use std::io::{self, Write};
 
@@ -47,19 +47,40 @@ impl Outside {
         }
     }
 
-    /// Whether a run with a failing call left what such a run has to leave.
-    fn is_as_due(self, left: &Left) -> bool {
+    /// The status that a failing call leads to.
+    fn status_due(self) -> Status {
         match self {
-            Outside::Input => {
-                left.status == Status::ReadFault && left.says_nothing && left.made == Made::Nothing
-            }
-            Outside::Console => {
-                left.status == Status::WriteFault && left.says_front && left.made == Made::Nothing
-            }
-            Outside::Output => {
-                left.status == Status::WriteFault && left.says_all && left.made != Made::Other
-            }
+            Outside::Input => Status::ReadFault,
+            Outside::Output | Outside::Console => Status::WriteFault,
         }
+    }
+
+    /// Whether what was said is what is due.
+    fn is_said_as_due(self, left: &Left) -> bool {
+        match self {
+            Outside::Input => left.says_nothing,
+            Outside::Output => left.says_all,
+            Outside::Console => left.says_front && !left.says_all,
+        }
+    }
+
+    /// What is due to be made where this call of so many fails. The first call of an output creates the file, and the last one finishes it.
+    fn made_due(self, call: u64, calls: u64) -> Made {
+        match self {
+            Outside::Input | Outside::Console => Made::Nothing,
+            Outside::Output if call == 0 => Made::Nothing,
+            Outside::Output if is_last(call, calls) => Made::Whole,
+            Outside::Output => Made::Front,
+        }
+    }
+
+    /// Whether the run left what is due, and made no call of this object behind the one that failed. So what is made or said is just what
+    /// the calls before that one took.
+    fn is_as_due(self, call: u64, calls: u64, left: &Left) -> bool {
+        left.status == self.status_due()
+            && is_last(call, left.calls)
+            && self.is_said_as_due(left)
+            && left.made == self.made_due(call, calls)
     }
 
     /// What a run with a failing call has to leave.
@@ -68,18 +89,25 @@ impl Outside {
             Outside::Input => "answers ReadFault, nothing is said, nothing made",
             Outside::Console => "answers WriteFault, a front is said, nothing made",
             Outside::Output => {
-                "answers WriteFault, all is said, a front is made and not finished"
+                "answers WriteFault, all is said; a create leaves nothing, a write what those before it took, a finish the whole, not finished"
             }
         }
     }
 }
 
-/// What is made of the object of a run without failures.
+/// Whether it is the last of so many calls. The first call has the number 0.
+fn is_last(call: u64, calls: u64) -> bool {
+    calls.checked_sub(call) == Some(1)
+}
+
+/// What is made of the object of the run without failures.
 #[derive(Clone, Copy, PartialEq, Eq)]
 enum Made {
     Nothing,
-    /// A front that is not finished.
+    /// A front that is not all and not finished.
     Front,
+    /// All of it, not finished.
+    Whole,
     Other,
 }
 
@@ -87,6 +115,8 @@ enum Made {
 #[derive(Clone, Copy)]
 struct Left {
     status: Status,
+    /// How often the object of the failing call was called.
+    calls: u64,
     says_nothing: bool,
     says_front: bool,
     says_all: bool,
@@ -94,13 +124,14 @@ struct Left {
 }
 
 impl Left {
-    fn of(ran: &Ran<'_>, clean: &Ran<'_>) -> Left {
+    fn of(outside: Outside, ran: &Ran<'_>, clean: &Ran<'_>) -> Left {
         let out = ran.console.inner().said(Channel::Out);
         let err = ran.console.inner().said(Channel::Err);
         let all_out = clean.console.inner().said(Channel::Out);
         let all_err = clean.console.inner().said(Channel::Err);
         Left {
             status: ran.status,
+            calls: outside.calls_of(ran),
             says_nothing: out.is_empty() && err.is_empty(),
             says_front: all_out.starts_with(out) && all_err.starts_with(err),
             says_all: out == all_out && err == all_err,
@@ -124,6 +155,7 @@ impl Left {
         match self.made {
             Made::Nothing => "nothing made",
             Made::Front => "a front is made and not finished",
+            Made::Whole => "all is made and not finished",
             Made::Other => "something else is made",
         }
     }
@@ -135,9 +167,9 @@ fn made_of(ran: &Ran<'_>, clean: &Ran<'_>) -> Made {
     let whole = clean.output.inner();
     match made.stage() {
         Stage::Nothing => Made::Nothing,
-        Stage::Begun if made.name() == whole.name() && whole.bytes().starts_with(made.bytes()) => {
-            Made::Front
-        }
+        Stage::Begun if made.name() != whole.name() => Made::Other,
+        Stage::Begun if made.bytes() == whole.bytes() => Made::Whole,
+        Stage::Begun if whole.bytes().starts_with(made.bytes()) => Made::Front,
         _ => Made::Other,
     }
 }
@@ -159,26 +191,62 @@ fn write_failing(
     }
     for call in 0..calls {
         let numbers = [call];
-        let ran = run_row(alloc, row, files, outside.failing(&numbers));
-        let left = Left::of(&ran, clean);
-        if !outside.is_as_due(&left) {
+        let failing = outside.failing(&numbers);
+        let ran = run_row(alloc, &row.words, files, failing, row.pieces);
+        let left = Left::of(outside, &ran, clean);
+        if !outside.is_as_due(call, calls, &left) {
             let number = call + 1;
+            let made_calls = left.calls;
             let status = left.status;
             let said = left.said_word();
             let made = left.made_word();
             return writeln!(
                 out,
-                "{word}: call {number} answers {status:?}, {said}, {made}"
+                "{word}: call {number} of {calls}, {made_calls} made, answers {status:?}, {said}, {made}"
             );
         }
     }
     let due = outside.due();
     write_text(word, out)?;
-    write_text(": every failing call ", out)?;
+    write_text(": every failing call is the last one and ", out)?;
     write_line(due, out)
 }
 
-/// Lets each call of the outside that the run without failures made fail in turn, and writes what the runs left.
+/// Whether two runs left the same.
+fn is_same(one: &Ran<'_>, other: &Ran<'_>) -> bool {
+    let said = one.console.inner();
+    let other_said = other.console.inner();
+    let made = one.output.inner();
+    let other_made = other.output.inner();
+    one.status == other.status
+        && said.said(Channel::Out) == other_said.said(Channel::Out)
+        && said.said(Channel::Err) == other_said.said(Channel::Err)
+        && made.stage() == other_made.stage()
+        && made.name() == other_made.name()
+        && made.bytes() == other_made.bytes()
+}
+
+/// Runs the row with one byte a call, and writes whether that leaves the same as the run without failures.
+fn write_bytewise(
+    alloc: Global,
+    row: &Row,
+    files: &[MemoryFile<'_>],
+    clean: &Ran<'_>,
+    out: &mut Vec<u8>,
+) -> io::Result<()> {
+    let bytewise = run_row(alloc, &row.words, files, Failing::none(), Pieces::alike(1));
+    write_line(
+        if is_same(&bytewise, clean) {
+            "one byte a call: the same is said and made"
+        } else {
+            "one byte a call: something else is said or made"
+        },
+        out,
+    )
+}
+
+/// Lets each call of the outside that the run without failures made fail in turn, and writes what the runs left; and runs the row once more
+/// with one byte a call.
 pub fn write_every_call(
     alloc: Global,
     row: &Row,
@@ -188,5 +256,6 @@ pub fn write_every_call(
 ) -> io::Result<()> {
     write_failing(alloc, row, files, clean, Outside::Input, out)?;
     write_failing(alloc, row, files, clean, Outside::Output, out)?;
-    write_failing(alloc, row, files, clean, Outside::Console, out)
+    write_failing(alloc, row, files, clean, Outside::Console, out)?;
+    write_bytewise(alloc, row, files, clean, out)
 }

@@ -52,3 +52,12 @@ pub fn write_object(
         }
     }
 }
+
+/// Writes the name of what was made, and how many bytes it has.
+pub fn write_size(alloc: Global, made: &MemoryOutput, out: &mut Vec<u8>) -> io::Result<()> {
+    match made.stage() {
+        Stage::Nothing => write_line("object none", out),
+        Stage::Begun => write_title(alloc, made, " begun ", out),
+        Stage::Finished => write_title(alloc, made, " ", out),
+    }
+}

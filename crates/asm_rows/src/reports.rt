@@ -2,7 +2,7 @@
 
 use crate::calls::write_every_call;
 use crate::frames::write_frames;
-use crate::objects::write_object;
+use crate::objects::{write_object, write_size};
 use crate::runs::{failing_calls, memory_files, run_row};
 use crate::shown_lines::write_line_table;
 use asm_base::Channel;
@@ -36,7 +36,8 @@ fn write_said(said: &[u8], mark: &str, out: &mut Vec<u8>) -> io::Result<()> {
 /// Runs a row, and writes what it said and made.
 fn write_row(alloc: Global, row: &Row, out: &mut Vec<u8>) -> io::Result<()> {
     let files = memory_files(alloc, &row.files)?;
-    let ran = run_row(alloc, row, &files, failing_calls(&row.failing));
+    let failing = failing_calls(&row.failing);
+    let ran = run_row(alloc, &row.words, &files, failing, row.pieces);
     let console = ran.console.inner();
     write_said(console.said(Channel::Err), "|", out)?;
     write_said(console.said(Channel::Out), ">", out)?;
@@ -49,6 +50,7 @@ fn write_row(alloc: Global, row: &Row, out: &mut Vec<u8>) -> io::Result<()> {
         Shown::Frames => write_frames(made, out),
         Shown::LineTable => write_line_table(made, out),
         Shown::EveryCall => write_every_call(alloc, row, &files, &ran, out),
+        Shown::Size => write_size(alloc, made, out),
     }
 }
 

@@ -3,7 +3,7 @@
 use asm_base::Status;
 use asm_run::run;
 use memory_outside::{Calls, FaultyConsole, FaultyInputs, FaultyOutput, MemoryFile, Unlisted};
-use row_texts::{FailingCalls, Row, SourceFile};
+use row_texts::{FailingCalls, Pieces, SourceFile};
 use std::alloc::{AllocError, Global};
 
 /// The numbers of the calls that fail, from 0.
@@ -12,6 +12,17 @@ pub struct Failing<'a> {
     pub input: &'a [u64],
     pub output: &'a [u64],
     pub console: &'a [u64],
+}
+
+impl<'a> Failing<'a> {
+    /// No call fails.
+    pub fn none() -> Failing<'a> {
+        Failing {
+            input: &[],
+            output: &[],
+            console: &[],
+        }
+    }
 }
 
 /// What a run left.
@@ -47,22 +58,23 @@ pub fn failing_calls(failing: &FailingCalls) -> Failing<'_> {
     }
 }
 
-/// Runs the row where these calls fail.
+/// Runs the words over the files, where these calls fail and no call takes more than so many bytes.
 pub fn run_row<'a>(
     alloc: Global,
-    row: &Row,
+    words: &Vec<String>,
     files: &[MemoryFile<'_>],
     failing: Failing<'a>,
+    pieces: Pieces,
 ) -> Ran<'a> {
     let mut ins = FaultyInputs::new(
         alloc,
         files,
         Unlisted::Missing,
-        Calls::new(failing.input, row.pieces),
+        Calls::new(failing.input, pieces.input),
     );
-    let mut output = FaultyOutput::new(alloc, Calls::new(failing.output, row.pieces));
-    let mut console = FaultyConsole::new(alloc, Calls::new(failing.console, row.pieces));
-    let status = run(alloc, &row.words, &mut ins, &mut output, &mut console);
+    let mut output = FaultyOutput::new(alloc, Calls::new(failing.output, pieces.output));
+    let mut console = FaultyConsole::new(alloc, Calls::new(failing.console, pieces.console));
+    let status = run(alloc, words, &mut ins, &mut output, &mut console);
     Ran {
         status,
         input_calls: ins.calls(),

@@ -16,4 +16,4 @@ pub use pieces::{
     write_code, write_count, write_displayed, write_line, write_number, write_spaced_code,
     write_text,
 };
-pub use rows::{FailingCalls, Row, RowFault, Shown, SourceFile, read_row};
+pub use rows::{FailingCalls, Pieces, Row, RowFault, Shown, SourceFile, read_row};

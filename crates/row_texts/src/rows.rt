@@ -50,6 +50,8 @@ pub enum Shown {
     LineTable,
     /// What is left where each call of the outside fails in turn.
     EveryCall,
+    /// How many bytes the object has.
+    Size,
 }
 
 /// A source file of a row.
@@ -67,13 +69,31 @@ pub struct FailingCalls {
     pub console: Vec<u64>,
 }
 
+/// The most bytes that a call takes.
+#[derive(Clone, Copy)]
+pub struct Pieces {
+    pub input: usize,
+    pub output: usize,
+    pub console: usize,
+}
+
+impl Pieces {
+    /// The same for each object.
+    pub fn alike(bytes: usize) -> Pieces {
+        Pieces {
+            input: bytes,
+            output: bytes,
+            console: bytes,
+        }
+    }
+}
+
 /// A row as it is read.
 #[derive(Drop)]
 pub struct Row {
     pub words: Vec<String>,
     pub failing: FailingCalls,
-    /// The most bytes that a call takes.
-    pub pieces: usize,
+    pub pieces: Pieces,
     pub shown: Shown,
     pub files: Vec<SourceFile>,
 }
@@ -116,6 +136,21 @@ fn words_of(alloc: Global, text: &str) -> Result<Vec<String>, RowFault> {
     Ok(words)
 }
 
+/// Reads `BYTES`, the same for each object, or `INPUT OUTPUT CONSOLE`.
+fn read_pieces(text: &str) -> Result<Pieces, RowFault> {
+    let Some((input, rest)) = text.split_once(' ') else {
+        return Ok(Pieces::alike(text.parse::<usize>()?));
+    };
+    let Some((output, console)) = rest.split_once(' ') else {
+        return Err(RowFault::NotUnderstood);
+    };
+    Ok(Pieces {
+        input: input.parse::<usize>()?,
+        output: output.parse::<usize>()?,
+        console: console.parse::<usize>()?,
+    })
+}
+
 impl Row {
     /// The row without a line: a run on `as x.s` of which no call fails.
     fn new(alloc: Global) -> Result<Row, RowFault> {
@@ -126,7 +161,7 @@ impl Row {
                 output: Vec::new(alloc),
                 console: Vec::new(alloc),
             },
-            pieces: usize::MAX,
+            pieces: Pieces::alike(usize::MAX),
             shown: Shown::Object,
             files: Vec::new(alloc),
         })
@@ -162,7 +197,7 @@ impl Row {
             return self.read_failing(call);
         }
         if let Some(bytes) = line.strip_prefix("pieces ") {
-            self.pieces = bytes.parse::<usize>()?;
+            self.pieces = read_pieces(bytes)?;
             return Ok(());
         }
         match line {
@@ -171,6 +206,7 @@ impl Row {
             "frames" => self.shown = Shown::Frames,
             "line table" => self.shown = Shown::LineTable,
             "every call" => self.shown = Shown::EveryCall,
+            "size" => self.shown = Shown::Size,
             _ => return Err(RowFault::NotUnderstood),
         }
         Ok(())
