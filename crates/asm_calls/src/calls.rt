@@ -6,6 +6,7 @@ use crate::frames::write_directives;
 use crate::layouts::write_layout;
 use crate::objects::write_object;
 use crate::symbols::{write_assigned, write_instances};
+use crate::unfailing::{write_endless, write_unfailing};
 use asm_frags::FieldSize;
 use layer_rows::{
     write_folded, write_form, write_messages, write_names, write_parsed, write_settled,
@@ -106,6 +107,8 @@ fn make_other_call(alloc: Global, call: &str, text: &str, out: &mut Vec<u8>) -> 
         "layout" => call_layout(alloc, text, out),
         "object" => write_object(alloc, text, out),
         "cfi" => write_directives(alloc, text, out),
+        "unfailing" => write_unfailing(alloc, text, out),
+        "endless" => write_endless(alloc, text, out),
         _ => write_line("no such call", out),
     }
 }

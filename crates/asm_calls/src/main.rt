@@ -11,6 +11,7 @@ mod objects;
 mod outside;
 mod parts;
 mod symbols;
+mod unfailing;
 
 use asm_base::StreamConsole;
 use asm_rows::report_rows;
