@@ -1,12 +1,12 @@
 #!/usr/bin/env python3
 """Writes what is found by the instruction table and its mnemonics: where the rows of a name stand, where the mnemonics stand by the hashes of their texts, the
-codes of those that stand without operands, and the keys of the rows.
+codes of those that stand without operands, the keys of the rows, and the rows of each opcode.
 
     tools/instruction_indices.py [--check] [--crates crates]
 
 With `--check` nothing is written: ends with 1 where a file is not what the table gives. That each of these is right is proved when its crate is checked (the
-rows of a range are those of the name, a mnemonic is found by its slot, a code and a key are those of the row); this saves the writing by hand when the table
-changes.
+rows of a range are those of the name, a mnemonic is found by its slot, a code and a key are those of the row, a row stands at each of its opcodes); this saves
+the writing by hand when the table changes.
 """
 import argparse
 import pathlib
@@ -262,6 +262,47 @@ def keys_file(rows: list[Row]) -> str:
     return f"{KEYS_HEAD}pub static KEYS: [Key; {len(rows)}] = keys! {{\n" + "\n".join([*lines, line]) + "\n};\n"
 
 
+# ---- The rows of each opcode
+
+MAPS = ["One", "Two", "Three38", "Three3A"]
+OPCODES, REGISTERS_IN_OPCODE = 256, 8
+OPCODES_HEAD = """\
+//! The rows of each opcode.
+
+/// Where the rows of each opcode begin in `OPCODE_ROWS`: those of the map of one byte, then those behind 0F,
+/// 0F 38 and 0F 3A.
+#[rattlefmt::skip]
+"""
+OPCODE_ROWS_HEAD = """
+/// The rows of each opcode, one opcode after the other.
+#[rattlefmt::skip]
+"""
+
+
+def numbers_table(name: str, numbers: list[int]) -> str:
+    """A table of numbers: as many on a line as have room."""
+    lines, line = [], "   "
+    for number in numbers:
+        if len(line) + len(f" {number},") > WIDTH:
+            lines.append(line)
+            line = "   "
+        line += f" {number},"
+    return f"pub static {name}: [u16; {len(numbers)}] = [\n" + "\n".join([*lines, line]) + "\n];\n"
+
+
+def opcodes_file(rows: list[Row]) -> str:
+    """The file of the rows by their opcodes: a row with a register in its opcode has eight."""
+    at: list[list[int]] = [[] for _ in range(len(MAPS) * OPCODES)]
+    for index, row in enumerate(rows):
+        span = REGISTERS_IN_OPCODE if row.shape in ("Low", "LowNotFirst") else 1
+        for code in range(row.code, row.code + span):
+            at[OPCODES * MAPS.index(row.map) + code].append(index)
+    starts = [0]
+    for indices in at:
+        starts.append(starts[-1] + len(indices))
+    return OPCODES_HEAD + numbers_table("STARTS", starts) + OPCODE_ROWS_HEAD + numbers_table("OPCODE_ROWS", [index for indices in at for index in indices])
+
+
 # ---- All files
 
 def files(crates: pathlib.Path) -> dict[pathlib.Path, str]:
@@ -270,7 +311,7 @@ def files(crates: pathlib.Path) -> dict[pathlib.Path, str]:
     rows = read_table(table)
     lists = [(syntax, f"{prefix}_SLOTS", read_names(names, f"{prefix}_NAMES")) for syntax, prefix in (("AT&T", "ATT"), ("Intel", "INTEL"))]
     return {names / "spans.rt": spans_file(rows), names / "slots.rt": slots_file(lists), names / "bare_codes.rt": codes_file(rows, lists[0][2]),
-            names / "row_keys.rt": keys_file(rows)}
+            names / "row_keys.rt": keys_file(rows), crates / "x86_decode/src/slots.rt": opcodes_file(rows)}
 
 
 def main() -> int:

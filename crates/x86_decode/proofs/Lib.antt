@@ -1,0 +1,20 @@
+-- Lemmas on the instruction that bytes begin with.
+mod FieldFacts
+mod LeadingBytes
+mod HeadBytes
+mod PlaceBytes
+mod ImmediateBytes
+mod PrefixBytes
+mod FieldsBack
+mod SharedHeads
+mod OwnRows
+mod Completeness
+mod Soundness
+mod Decoded
+mod ReadFields
+mod SlotFacts
+mod SlotRows
+mod FirstNumbers
+mod RowsTaken
+mod ShownInstructions
+mod SingleRows
