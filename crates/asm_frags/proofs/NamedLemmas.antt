@@ -107,7 +107,7 @@ module _ {Item : Type 0} (names : List (Vec ℕ × ℕ)) (members : List (Member
   pub group_count : length groups ≡ length (groups_of sections)
   group_count = sym (plain_long groups) ∙ ap length groups_same
 
-  pub few_same : length sections + length groups ≤ 30003
+  pub few_same : length sections + length groups ≤ 30005
   few_same =
       let few = sound.few in
       let long : length (map heading_of sections) ≡ length sections = length-map sections heading_of in
@@ -281,7 +281,7 @@ one_heading one is (suc k) d within = absurd (omega arith)
 pub named_more : (names more : List (List ℕ × ℕ)) (members others : List (MemberKey × ℕ)) (groups all : List Group) (headings : List Heading) (one : Heading)
     → AreNamed names members groups headings → more ≡ names ++ bare_number (length headings) one.name one.group []
     → others ≡ members ++ member_number_of (length headings) one.name one.group [] → all ≡ with_group groups one.group
-    → length headings + length groups + new_groups groups one.group < 30003 → IsHeading one → AreNamed more others all (headings ++ one ∷ [])
+    → length headings + length groups + new_groups groups one.group < 30005 → IsHeading one → AreNamed more others all (headings ++ one ∷ [])
 named_more names more members others groups all headings one sound named put seen few is = record {
   named = named ∙ ap (λ (ns : List (List ℕ × ℕ)). ns ++ bare_number (length headings) one.name one.group []) sound.named ∙ sym (bare_more 0 (length headings) headings one (omega arith));
   members = put ∙ ap (λ (ms : List (MemberKey × ℕ)). ms ++ member_number_of (length headings) one.name one.group []) sound.members ∙ sym (member_more 0 (length headings) headings one (omega arith));
@@ -312,7 +312,7 @@ heading_more sections all section last = ap (map heading_of) last ∙ map-append
 -- a section more that is in no group
 pub added : {Item : Type 0} (names more : List (Vec ℕ × ℕ)) (members : List (MemberKey × ℕ)) (groups : List Group) (key : Vec ℕ) (number : ℕ) (sections all : List (SectionOf Item)) (section : SectionOf Item) (one : Heading)
     → AreNamed (plain_names names) members groups (map heading_of sections) → heading_of section ≡ one → one.group ≡ None → more ≡ names ++ (key, number) ∷ [] → key.items ≡ one.name → number ≡ length sections
-    → length sections + length groups < 30003 → IsHeading one → all ≡ sections ++ section ∷ [] → AreNamed (plain_names more) members groups (map heading_of all)
+    → length sections + length groups < 30005 → IsHeading one → all ≡ sections ++ section ∷ [] → AreNamed (plain_names more) members groups (map heading_of all)
 unfolding plain_names
 added names more members groups key number sections all section one sound heading bare put name count few is last =
     let long : length (map heading_of sections) ≡ length sections = length-map sections heading_of in
@@ -320,7 +320,7 @@ added names more members groups key number sections all section one sound headin
     let named : plain_names more ≡ plain_names names ++ bare_number (length (map heading_of sections)) one.name one.group [] =
     ap plain_names put ∙ map-append (λ (e : Vec ℕ × ℕ). (e.0.items, e.1)) names ((key, number) ∷ [])
     ∙ rw (bare, name, place) refl in
-    let less : length (map heading_of sections) + length groups + new_groups groups one.group < 30003 = rw bare (omega (arith, long, few)) in
+    let less : length (map heading_of sections) + length groups + new_groups groups one.group < 30005 = rw bare (omega (arith, long, few)) in
     subst (AreNamed (plain_names more) members groups) (sym (heading_more sections all section last ∙ ap (λ (h : Heading). map heading_of sections ++ h ∷ []) heading))
     (named_more (plain_names names) (plain_names more) members members groups groups (map heading_of sections) one sound named (rw bare (sym (append-nil members))) (rw bare refl) less is)
 
@@ -329,7 +329,7 @@ pub added_member : {Item : Type 0} (names : List (List ℕ × ℕ)) (members mor
     (section : SectionOf Item) (one : Heading) (group : Group)
     → AreNamed names members (plain_groups groups) (map heading_of sections) → heading_of section ≡ one → one.group ≡ Some group
     → more ≡ members ++ (key, number) ∷ [] → key ≡ record { signature = group.signature; name = one.name } → number ≡ length sections
-    → plain_groups others ≡ with_group (plain_groups groups) (Some group) → length sections + length groups + new_groups (plain_groups groups) (Some group) < 30003
+    → plain_groups others ≡ with_group (plain_groups groups) (Some group) → length sections + length groups + new_groups (plain_groups groups) (Some group) < 30005
     → IsHeading one → all ≡ sections ++ section ∷ [] → AreNamed names more (plain_groups others) (map heading_of all)
 added_member names members more groups others key number sections all section one group sound heading in_group put named count seen few is last =
     let long : length (map heading_of sections) ≡ length sections = length-map sections heading_of in
@@ -337,7 +337,7 @@ added_member names members more groups others key number sections all section on
     let entry : (key, number) ∷ [] ≡ member_number_of (length (map heading_of sections)) one.name one.group [] = rw (in_group, named, place) refl in
     let found : more ≡ members ++ member_number_of (length (map heading_of sections)) one.name one.group [] = put ∙ ap (λ (ms : List (MemberKey × ℕ)). members ++ ms) entry in
     let many : length (plain_groups groups) ≡ length groups = plain_long groups in
-    let less : length (map heading_of sections) + length (plain_groups groups) + new_groups (plain_groups groups) one.group < 30003 = rw in_group (omega (arith, long, many, few)) in
+    let less : length (map heading_of sections) + length (plain_groups groups) + new_groups (plain_groups groups) one.group < 30005 = rw in_group (omega (arith, long, many, few)) in
     subst (AreNamed names more (plain_groups others)) (sym (heading_more sections all section last ∙ ap (λ (h : Heading). map heading_of sections ++ h ∷ []) heading))
     (named_more names names members more (plain_groups groups) (plain_groups others) (map heading_of sections) one sound (rw in_group (sym (append-nil names))) found
     (rw in_group seen) less is)

@@ -20,9 +20,21 @@ first_sections =
     ∷ new_section (codes ".data") (section_flags 3) 1 0
     ∷ new_section (codes ".bss") (section_flags 3) 8 0 ∷ []
 
--- the section last, whose number is how many there were; a source makes at most 30,000 beside the first three, its groups among them
+-- the section last, whose number is how many there were
+abbrev pub put_last : {Item : Type 0} → List (SectionOf Item) → SectionOf Item → Result (ℕ × List (SectionOf Item)) FragCause
+put_last sections made = Ok (length sections, sections ++ made ∷ [])
+
+-- the same, unless there would be more sections and groups than so many
+abbrev pub last_of : {Item : Type 0} → ℕ → List (SectionOf Item) → SectionOf Item → Result (ℕ × List (SectionOf Item)) FragCause
+last_of most sections made = if nat_lt (counted sections + new_groups (groups_of sections) made.group) most then put_last sections made else Err BadSection
+
+-- a source makes at most 30,000 beside the first three
 abbrev pub new_last : {Item : Type 0} → List (SectionOf Item) → SectionOf Item → Result (ℕ × List (SectionOf Item)) FragCause
-new_last sections made = if nat_lt (counted sections + new_groups (groups_of sections) made.group) 30003 then Ok (length sections, sections ++ made ∷ []) else Err BadSection
+new_last sections made = last_of 30003 sections made
+
+-- after all statements there are two tables more at most
+abbrev pub table_last : {Item : Type 0} → List (SectionOf Item) → SectionOf Item → Result (ℕ × List (SectionOf Item)) FragCause
+table_last sections made = last_of 30005 sections made
 
 -- the number of the section that there is, unless flags, type or entry size differ
 abbrev pub entered_there : {Item : Type 0} → List (SectionOf Item) → ℕ → Option (SectionOf Item) → SectionFlags → ℕ → ℕ → Result (ℕ × List (SectionOf Item)) FragCause

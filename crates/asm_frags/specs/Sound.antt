@@ -50,10 +50,10 @@ pub record IsHeading (one : Heading) : Type 0 where
   pub flagged : says_group one.flags ≡ is_some one.group
   pub short : length one.name ≤ 2 ^ 16
 
--- each section has the number of its name among those in no group, or in its group; there are at most 30,003 sections and groups
+-- each section has the number of its name among those in no group, or in its group; there are at most 30,005 sections and groups, those of the two tables among them
 pub record AreNamed (names : List (List ℕ × ℕ)) (grouped : List (MemberKey × ℕ)) (groups : List Group) (headings : List Heading) : Type 0 where
   pub named : names ≡ bare_numbers 0 headings
   pub members : grouped ≡ member_numbers 0 headings
   pub seen : groups ≡ groups_among (map (λ one. one.group) headings)
-  pub few : length headings + length groups ≤ 30003
+  pub few : length headings + length groups ≤ 30005
   pub all : All IsHeading headings

@@ -14,9 +14,12 @@ use crate::section_list::Sections;
 use asm_base::Text;
 use std::alloc::{AllocError, Global};
 
-/// The most sections and groups: 30,000 that a source makes, and the three sections that are there from
-/// the beginning.
+/// The most sections and groups of a source: 30,000 that it makes, and the three sections that are there
+/// from the beginning.
 const MOST_SECTIONS: usize = 30_003;
+
+/// The most with the sections of the two tables that are put after all statements.
+const MOST_WITH_TABLES: usize = 30_005;
 
 /// Whether one of these is said and the other is not.
 fn is_otherwise(one: bool, other: bool) -> bool
@@ -34,15 +37,41 @@ fn copied(alloc: Global, text: &Text) -> Result<Text, AllocError>
 
 impl Sections<Loose> {
     ghost use Rattle.asm_frags.specs.Groups.{counted, groups_of, is_member_named, is_said_otherwise, member_number, new_groups, says_group};
-    ghost use Rattle.asm_frags.specs.Sections.{entered, entered_in, entered_member, entered_there, Enters, new_last, new_member};
+    ghost use Rattle.asm_frags.specs.Sections.{entered, entered_in, entered_member, entered_there, Enters, new_last, new_member, put_last, table_last};
     ghost use Rattle.asm_frags.specs.SectionOf.{new_section, is_section_named};
 
-    /// Whether there is room for a section more, and for so many groups.
-    fn has_room(&self, groups: usize) -> bool
+    /// Whether there is room for a section more, and for so many groups, where there are at most so many.
+    fn has_room(&self, groups: usize, most: usize) -> bool
         requires { groups ≤ 1 }
-        ensures { result ≡ nat_lt (counted self.now + groups) 30003 }
+        ensures { result ≡ nat_lt (counted self.now + groups) most }
     {
-        self.sections.len() + self.groups.len() + groups < MOST_SECTIONS
+        self.sections.len() + self.groups.len() + groups < most
+    }
+
+    /// Puts a section in no group last, whose name is new, and gives its number.
+    fn put_bare(
+        &mut self,
+        name: Text,
+        flags: SectionFlags,
+        kind: u32,
+        entry_size: u64,
+    ) -> Result<u32, FragFault>
+        requires new { list_any (is_section_named name) self.old ≡ false }
+        requires room { counted self.old < 30005 }
+        requires short { length name ≤ 2 ^ 16 }
+        requires bare { says_group flags ≡ false }
+        ensures { Enters self.old self.new result
+            (put_last self.old (new_section name flags kind entry_size)) }
+    {
+        let number = self.sections.len() as u32;
+        let key = Vec::from_slice(self.alloc, name.as_bytes())?;
+        self.sections.reserve(1)?;
+        self.names.insert(key, number)?;
+        // `reserve` made room for it.
+        self.sections
+            .push(Section::new(self.alloc, name, flags, kind, entry_size, None))
+            .unwrap();
+        Ok(number)
     }
 
     /// Adds a section in no group whose name is new, and gives its number.
@@ -59,18 +88,32 @@ impl Sections<Loose> {
         ensures { Enters self.old self.new result
             (new_last self.old (new_section name flags kind entry_size)) }
     {
-        if !self.has_room(0) {
+        if !self.has_room(0, MOST_SECTIONS) {
             return Err(FragFault::Fault(FragCause::BadSection));
         }
-        let number = self.sections.len() as u32;
-        let key = Vec::from_slice(self.alloc, name.as_bytes())?;
-        self.sections.reserve(1)?;
-        self.names.insert(key, number)?;
-        // `reserve` made room for it.
-        self.sections
-            .push(Section::new(self.alloc, name, flags, kind, entry_size, None))
-            .unwrap();
-        Ok(number)
+        self.put_bare(name, flags, kind, entry_size)
+    }
+
+    /// Adds the section of a table that is put after all statements, which is in no group and whose name is
+    /// new, and gives its number. `BadSection` comes exactly where there would be more than 30,005 sections
+    /// and groups: never in the first two calls after those of a source.
+    pub fn add_table(
+        &mut self,
+        name: Text,
+        flags: SectionFlags,
+        kind: u32,
+        entry_size: u64,
+    ) -> Result<u32, FragFault>
+        requires new { list_any (is_section_named name) self.old ≡ false }
+        requires short { length name ≤ 2 ^ 16 }
+        requires bare { says_group flags ≡ false }
+        ensures { Enters self.old self.new result
+            (table_last self.old (new_section name flags kind entry_size)) }
+    {
+        if !self.has_room(0, MOST_WITH_TABLES) {
+            return Err(FragFault::Fault(FragCause::BadSection));
+        }
+        self.put_bare(name, flags, kind, entry_size)
     }
 
     /// The number of the section of this name in its group.
@@ -125,7 +168,7 @@ impl Sections<Loose> {
             (new_member (record { signature = key.signature; comdat = comdat })
             key.name flags kind entry_size)) }
     {
-        if !self.has_room(self.new_groups(&key.signature, comdat)) {
+        if !self.has_room(self.new_groups(&key.signature, comdat), MOST_SECTIONS) {
             return Err(FragFault::Fault(FragCause::BadSection));
         }
         let number = self.sections.len() as u32;

@@ -58,7 +58,7 @@ impl<P: Phase> Sections<P> {
     /// How many sections there are.
     pub fn len(&self) -> usize
         ensures len { result ≡ length self.now }
-        ensures within { result ≤ 30003 }
+        ensures within { result ≤ 30005 }
     {
         self.sections.len()
     }
@@ -73,7 +73,7 @@ impl<P: Phase> Sections<P> {
     /// The sections, in the order of their numbers.
     pub fn as_slice(&self) -> &[Section<P>]
         ensures sections { result.now ≡ self.now }
-        ensures within { length result.now ≤ 30003 }
+        ensures within { length result.now ≤ 30005 }
         ensures flagged { All IsFlagged result.now }
     {
         self.sections.as_slice()
@@ -82,7 +82,7 @@ impl<P: Phase> Sections<P> {
     /// How many groups there are.
     pub fn group_count(&self) -> usize
         ensures len { result ≡ length (groups_of self.now) }
-        ensures within { length self.now + result ≤ 30003 }
+        ensures within { length self.now + result ≤ 30005 }
     {
         self.groups.len()
     }

@@ -1,12 +1,11 @@
 -- A new section for a table.
-use Rattle.std.proofs.Common.{◌≡◌, ℕ, ◌+◌, Bool, true, false, nat_lt, List, [], ◌∷◌, ◌++◌, length, Option, None, Some, Result, Ok, Err, if◌then◌else◌, refl, sym, ap, subst, ◌∙◌, arith, length-append}
-use Rattle.std.specs.Prelude.{IsSomeAnd, codes}
+use Rattle.std.proofs.Common.{◌≡◌, ℕ, ◌+◌, Bool, true, false, nat_lt, List, [], ◌∷◌, ◌++◌, length, Option, Some, Result, Ok, Err, if◌then◌else◌, refl, sym, ap, subst, ◌∙◌, arith, length-append}
+use Rattle.std.specs.Prelude.{IsSomeAnd}
 use Rattle.std.specs.List.{slice_get}
 use Rattle.asm_base.specs.declared.causes.FragCause.{FragCause}
 use Rattle.asm_base.specs.declared.causes.FragCause.TheVariants.{BadSection}
 use Rattle.asm_frags.specs.Groups.{counted}
-use Rattle.asm_frags.specs.SectionOf.{section_number}
-use Rattle.asm_frags.specs.Sections.{section_flags, entered, entered_by}
+use Rattle.asm_frags.specs.Sections.{table_last}
 use Rattle.asm_frags.specs.Writing.{LooseSection, takes_zeros_alone}
 use Rattle.table_pieces.specs.Pieces.{Takes}
 use Rattle.eh_frame.specs.Placing.{new_table}
@@ -23,16 +22,15 @@ module _ (old new : List LooseSection) (number : ℕ) where
       (ap (λ (pair : ℕ × List LooseSection). pair.0) same, ap (λ (pair : ℕ × List LooseSection). pair.1) same)
   by_room false is = absurd cc
 
-  added : section_number (codes ".eh_frame") old ≡ None → entered old (codes ".eh_frame") (section_flags 2) 1 0 ≡ Ok (number, new)
+  added : table_last old new_table ≡ Ok (number, new)
       → (number ≡ length old) × (new ≡ old ++ new_table ∷ [])
-  added none is = by_room (nat_lt (counted old + 0) 30003)
-      (sym (ap (λ found. entered_by old found (codes ".eh_frame") (section_flags 2) 1 0) none) ∙ is)
+  added is = by_room (nat_lt (counted old + 0) 30005) is
 
-  pub table_added : section_number (codes ".eh_frame") old ≡ None → entered old (codes ".eh_frame") (section_flags 2) 1 0 ≡ Ok (number, new) → new ≡ old ++ new_table ∷ []
-  table_added none is = (added none is).1
+  pub table_added : table_last old new_table ≡ Ok (number, new) → new ≡ old ++ new_table ∷ []
+  table_added is = (added is).1
 
-  pub table_number : section_number (codes ".eh_frame") old ≡ None → entered old (codes ".eh_frame") (section_flags 2) 1 0 ≡ Ok (number, new) → number ≡ length old
-  table_number none is = (added none is).0
+  pub table_number : table_last old new_table ≡ Ok (number, new) → number ≡ length old
+  table_number is = (added is).0
 
 get_last : (xs : List LooseSection) (x : LooseSection) → slice_get (xs ++ x ∷ []) (length xs) ≡ Some x
 get_last [] x = refl
@@ -44,8 +42,7 @@ last_takes old = record {
   filled = subst (λ (found : Option LooseSection). IsSomeAnd found (λ held. takes_zeros_alone held ≡ false)) (sym (get_last old new_table)) refl;
 }
 
-pub table_takes : (old new : List LooseSection) (number : ℕ) → section_number (codes ".eh_frame") old ≡ None
-    → entered old (codes ".eh_frame") (section_flags 2) 1 0 ≡ Ok (number, new) → Takes number new
-table_takes old new number none is =
-    let parts : (number ≡ length old) × (new ≡ old ++ new_table ∷ []) = added old new number none is in
+pub table_takes : (old new : List LooseSection) (number : ℕ) → table_last old new_table ≡ Ok (number, new) → Takes number new
+table_takes old new number is =
+    let parts : (number ≡ length old) × (new ≡ old ++ new_table ∷ []) = added old new number is in
     subst (λ (n : ℕ). Takes n new) (sym parts.0) (subst (Takes (length old)) (sym parts.1) (last_takes old))

@@ -4,7 +4,8 @@ ghost use Rattle.std.specs.Prelude.{◌≡◌, ◌<◌, ◌≤◌, true, false, 
 ghost use Rattle.asm_base.specs.declared.refusals.Refusal.TheVariants.{NoMemory};
 ghost use Rattle.asm_base.specs.Refusals.{Gives};
 ghost use Rattle.asm_base.specs.declared.causes.FragCause.TheVariants.{BadSection};
-ghost use Rattle.asm_frags.specs.SectionOf.{section_number};
+ghost use Rattle.std.specs.List.{list_any};
+ghost use Rattle.asm_frags.specs.SectionOf.{is_section_named, section_number};
 ghost use Rattle.cfi_directives.specs.declared.frames.Frame.{Frame as FrameValue};
 ghost use Rattle.table_pieces.specs.Ends as ends;
 ghost use Rattle.table_pieces.specs.Pieces.{Takes, Tables, pieces_put, tables_of};
@@ -257,17 +258,17 @@ fn put_table(
     put_entries(alloc, symbols, sections, section, progress, frames)
 }
 
-/// A new section for the table, which is the last. One section more than there may be is refused as want of memory.
+/// A new section for the table, which is the last. There is room for it after the statements of a source.
 #[tactic(auto, using(crate::proofs::NewTable::table_added, crate::proofs::NewTable::table_number, crate::proofs::NewTable::table_takes))]
 fn new_table(alloc: Global, sections: &mut Sections) -> Result<u32, FragFault>
-    requires { section_number (codes ".eh_frame") sections.old ≡ None }
+    requires { list_any (is_section_named (codes ".eh_frame")) sections.old ≡ false }
     ensures ok { OnOk result (sections.new ≡ sections.old ++ spec.new_table ∷ []) }
     ensures number { IfOk result (λ number. number ≡ length sections.old) }
     ensures takes { IfOk result (λ number. Takes number sections.new) }
     ensures memory { IfErr result (λ fault. fault ≡ NoMemory) }
 {
     let name = Text::new(Vec::from_slice(alloc, NAME)?);
-    match sections.enter(name, SectionFlags::ALLOC, SHT_PROGBITS, 0, None) {
+    match sections.add_table(name, SectionFlags::ALLOC, SHT_PROGBITS, 0) {
         Ok(number) => Ok(number),
         Err(_) => Err(FragFault::NoMemory),
     }
@@ -317,7 +318,7 @@ fn place_all(
 /// AMD64, section 4.2.4; DWARF 5, section 6.4). Procedures share a CIE whose pointers are written alike and that have one
 /// personality. Places that distances lead from and to get labels. Where there is no procedure, nothing is put and nothing
 /// made. `BadSection` comes exactly where there is one and the section has the type `SHT_NOBITS`; it is told at the first
-/// procedure's line. A section or a symbol more than there may be is refused as want of memory.
+/// procedure's line. A symbol more than there may be is refused as want of memory.
 #[tactic(auto, unfolding(crate::specs::Placing::placed))]
 pub fn place(
     alloc: Global,

@@ -97,7 +97,7 @@ pub(crate) struct Headers {
 /// section, and those of groups stand behind it.
 pub(crate) fn first_header(sections: &Sections<Laid>) -> usize
     ensures value { result ≡ spec.first_header sections.now }
-    ensures within { length sections.now + result ≤ 30004 }
+    ensures within { length sections.now + result ≤ 30006 }
 {
     1 + sections.group_count()
 }
@@ -218,7 +218,7 @@ fn group_lists(
     first: usize,
     held: &[HeldSection],
 ) -> Result<Vec<Vec<u8>>, AllocError>
-    requires within { length sections.now + first ≤ 30004 }
+    requires within { length sections.now + first ≤ 30006 }
     requires sources { map source_of held.now ≡ sections.now }
     ensures { let found = map relocations_in held.now in
         IfOk result (λ lists. map (λ list. list.items) lists.items
@@ -245,7 +245,7 @@ pub(crate) fn group_sections<'a>(
     held: &[HeldSection],
 ) -> Result<Vec<FileSection<'a>>, AllocError>
     requires first { first ≡ spec.first_header sections.now }
-    requires within { length sections.now + first ≤ 30004 }
+    requires within { length sections.now + first ≤ 30006 }
     requires sources { map source_of held.now ≡ sections.now }
     ensures { IfOk result (λ out. map section_view out.items
         ≡ spec.group_entries (numbers_view numbers.now) symbols sections.now

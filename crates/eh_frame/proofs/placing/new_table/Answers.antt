@@ -1,17 +1,18 @@
 -- The section is new, and has the name of frame tables.
 use Rattle.std.proofs.Common.{◌≡◌, ℕ, List, codes, sym, ◌∙◌, ap}
-use Rattle.asm_frags.specs.Sections.{section_flags, entered}
+use Rattle.asm_frags.specs.SectionOf.{new_section}
+use Rattle.asm_frags.specs.Sections.{section_flags, table_last}
 use Rattle.eh_frame.proofs.NewTable.{table_added, table_takes}
 use Rattle.eh_frame.proofs.placing.new_table.Goals as goal
 
 pub returns-in-Ok-clause-ok : goal.returns-in-Ok-clause-ok
 returns-in-Ok-clause-ok c =
     let name : c.new-name.result ≡ codes ".eh_frame" = c.new-name.ensures ∙ c.in_ok-from_slice.ensures.items in
-    table_added c.args.sections.now c.enter.new.self c.in-Ok.number c.requires
-    (ap (λ (name : List ℕ). entered c.args.sections.now name (section_flags 2) 1 0) (sym name) ∙ c.in-Ok.ensures)
+    table_added c.args.sections.now c.add_table.new.self c.in-Ok.number
+    (ap (λ (name : List ℕ). table_last c.args.sections.now (new_section name (section_flags 2) 1 0)) (sym name) ∙ c.in-Ok.ensures)
 
 pub returns-in-Ok-clause-takes : goal.returns-in-Ok-clause-takes
 returns-in-Ok-clause-takes c =
     let name : c.new-name.result ≡ codes ".eh_frame" = c.new-name.ensures ∙ c.in_ok-from_slice.ensures.items in
-    table_takes c.args.sections.now c.enter.new.self c.in-Ok.number c.requires
-    (ap (λ (name : List ℕ). entered c.args.sections.now name (section_flags 2) 1 0) (sym name) ∙ c.in-Ok.ensures)
+    table_takes c.args.sections.now c.add_table.new.self c.in-Ok.number
+    (ap (λ (name : List ℕ). table_last c.args.sections.now (new_section name (section_flags 2) 1 0)) (sym name) ∙ c.in-Ok.ensures)

@@ -10,7 +10,7 @@ use Rattle.elf_object.proofs.sections.group_sections.Given as goal
 
 abbrev pub invariant-loop-list : goal.invariant-loop-list
 invariant-loop-list l = record {
-  below : l.index + length l.list-iterator.rest.items ≤ 30003;
+  below : l.index + length l.list-iterator.rest.items ≤ 30005;
   left : map section_view l.out.items ++ listing_entries (numbers_view l.numbers) l.symbols l.index (map (λ list. list.items) l.list-iterator.rest.items)
       ≡ group_entries (numbers_view l.numbers) l.symbols l.sections (map relocations_in l.held) 0 (groups_of l.sections);
 }

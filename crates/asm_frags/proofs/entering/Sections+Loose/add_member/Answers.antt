@@ -33,7 +33,7 @@ invariant_of-self-2 c =
     let room : counted sections + new_groups (groups_of sections) (Some group) < 30003 = search rules in
     let long = ap length seen in
     let count = plain_long groups in
-    let few : length sections + length groups + new_groups (plain_groups groups) (Some group) < 30003 = rw seen (omega (arith, room, long, count)) in
+    let few : length sections + length groups + new_groups (plain_groups groups) (Some group) < 30005 = rw seen (omega (arith, room, long, count)) in
     added_member _ c.self.inside.members.entries c.insert-2.new.self.entries groups c.insert.new.self.entries key _ sections c.push.new.self.items c.new.result
     (record { name = key.name; flags = c.args.flags; group = Some group }) group c.self.invariant (search rules) refl put refl (search rules) others few
     (record { flagged = c.requires.flagged; short = c.requires.short }) (search rules)

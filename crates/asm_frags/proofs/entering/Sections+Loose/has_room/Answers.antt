@@ -9,4 +9,4 @@ returns c =
     let sections = c.len.ensures in
     let groups = c.len-2.ensures.len ∙ group_count c.self.inside.names.entries c.self.inside.members.entries c.self.inside.groups.entries c.self.inside.sections.items c.self.invariant in
     let same : c.len.result + c.len-2.result ≡ counted c.self.inside.sections.items = omega (arith, sections, groups) in
-    rw (← c.self.view_is) (ap (λ n. nat_lt (n + c.args.groups) 30003) same)
+    rw (← c.self.view_is) (ap (λ n. nat_lt (n + c.args.groups) c.args.most) same)
