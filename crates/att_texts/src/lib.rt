@@ -1,0 +1,8 @@
+//! The texts of instructions in AT&T syntax.
+#![tactic(auto)]
+
+mod laws;
+
+pub use laws::{
+    att_texts_spell, pieces_are_tokens, rows_have_mnemonics, suffixes_are_needed, worked_texts,
+};

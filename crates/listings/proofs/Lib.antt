@@ -1,0 +1,4 @@
+-- Lemmas on listings.
+mod Joins
+mod AllBytes
+mod OneLists
