@@ -58,7 +58,7 @@ rest_whole xs n = ap (λ (k : ℕ). take k (drop n xs)) (let long = length-drop 
 
 -- LINES
 
--- lines behind lines
+-- lines after lines
 lines_joined : (bytes : List ℕ) (at : ℕ) (lines : List Line) (mid : ℕ) (more : List Line) (end : ℕ) → AreLines bytes at lines mid → AreLines bytes mid more end
     → AreLines bytes at (lines ++ more) end
 lines_joined bytes at [] mid more end first rest = subst (λ m. AreLines bytes m more end) first rest

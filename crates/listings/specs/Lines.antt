@@ -23,7 +23,7 @@ pub record IsLineAt (all : List ℕ) (at : ℕ) (line : Line) : Type 0 where
   pub decodes : Decodes (drop at all) (option_map shown_front line.front)
   pub of_row : IfSome line.front (λ front. IsOfRow front)
 
--- the lines from the one offset to the other, each behind the one before it
+-- the lines from the one offset to the other, each after the one before it
 abbrev pub AreLines : (bytes : List ℕ) (at : ℕ) → List Line → (end : ℕ) → Type 0
 AreLines bytes at [] end = end ≡ at
 AreLines bytes at (line ∷ lines) end = IsLineAt bytes at line × AreLines bytes (at + length line.bytes) lines end

@@ -38,7 +38,7 @@ fn push_offset(head: &mut Head, offset: usize)
     push_byte(head, (offset % 256) as u8);
 }
 
-/// Appends the bytes, each with a blank behind it.
+/// Appends the bytes, each with a blank after it.
 #[inline(always)]
 fn push_bytes(head: &mut Head, bytes: &[u8])
     requires room { array_vec_len head.old + 3 * length bytes.now ≤ 64 }

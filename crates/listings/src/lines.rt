@@ -59,7 +59,7 @@ fn line_front(bytes: &[u8]) -> Option<Front>
     front_of(bytes)
 }
 
-/// Appends the line at the offset, and answers the offset behind it.
+/// Appends the line at the offset, and answers the offset after it.
 #[tactic(auto, using(crate::proofs::Joins::one_front, crate::proofs::Joins::one_byte))]
 fn put_line<T: Texts>(bytes: &[u8], at: usize, text: &mut Vec<u8>) -> Result<usize, NoMemory>
     requires { at < length bytes.now }
@@ -79,7 +79,7 @@ fn put_line<T: Texts>(bytes: &[u8], at: usize, text: &mut Vec<u8>) -> Result<usi
     }
 }
 
-/// Appends lines from the offset on until the text is full or the bytes are at their end, at least one, and answers the offset behind
+/// Appends lines from the offset on until the text is full or the bytes are at their end, at least one, and answers the offset after
 /// the last.
 #[tactic(auto, using(crate::proofs::Joins::joined))]
 pub fn put_lines<T: Texts>(bytes: &[u8], at: usize, text: &mut Vec<u8>) -> Result<usize, NoMemory>

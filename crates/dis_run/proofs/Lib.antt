@@ -1,0 +1,5 @@
+-- Lemmas on what a run says.
+mod SaidPieces
+mod Spoken
+mod Outcomes
+mod Answered

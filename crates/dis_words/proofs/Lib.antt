@@ -1,0 +1,3 @@
+-- Lemmas on the words.
+mod Reading
+mod CommandSamples
