@@ -1,8 +1,8 @@
 #!/usr/bin/env bash
-# Builds zlib, bzip2, Lua, lz4, expat and, in C++ with exceptions, pugixml with the assembler in a folder for `gcc -B`,
-# and with the machine's own; runs the tests of each package, and compares what they print. One line for a package and
-# a set of flags; a refusal is told with its messages, how often each came, and in how many files. Lua's package has no
-# tests: a script of ours is run.
+# Builds zlib, bzip2, Lua, lz4, expat, xz, SQLite and, in C++ with exceptions, pugixml with the assembler in a folder for
+# `gcc -B`, and with the machine's own; runs the tests of each package, and compares what they print. One line for a
+# package and a set of flags; a refusal is given with its messages, how often each came, and in how many files. Lua's
+# package has no tests, and those of SQLite want Tcl's library: scripts of ours are run.
 #
 #   checks/packages.sh build/gcc [PACKAGE..]
 #
@@ -13,7 +13,7 @@ set -u
 cd "$(dirname "$0")/.." || exit 1
 folder=$(realpath "${1:?a folder for gcc -B}")
 shift
-packages=${*:-zlib bzip2 lua5.4 lz4 expat pugixml}
+packages=${*:-zlib bzip2 lua5.4 lz4 expat xz-utils sqlite3 pugixml}
 room=build/packages
 mkdir -p $room/apt/lists/partial $room/apt/archives/partial
 room=$(realpath $room)
@@ -23,10 +23,12 @@ common='-mtune=nehalem'
 sets=('-g0 -O0' '-g0 -O2' '-g0 -Os' '-g0 -O2 -fPIC' '-g0 -O2 -masm=intel' '-g0 -O0 -masm=intel'
     '-g0 -O2 -fno-asynchronous-unwind-tables' '-g -gno-variable-location-views -O2')
 
-# What is known to be refused: addresses that are numbers, `ds:0`, which gcc writes in some files, and `.cfi_escape`, which
+# What is known to be refused: addresses that are numbers, as `ds:0`, which gcc writes in some files, and `.cfi_escape`, which
 # it writes at -Os where arguments of a call are on the stack.
 known='lua5.4 -g0 -O2 -masm=intel: refused: 2 bad operand; in 2 files
 pugixml -g0 -Os: refused: 1 unknown directive; in 1 files
+xz-utils -g0 -O2 -masm=intel: refused: 2 bad operand; in 2 files
+sqlite3 -g0 -O2 -masm=intel: refused: 1 bad operand; in 1 files
 pugixml -g0 -O2 -masm=intel: refused: 3 bad operand; in 3 files'
 
 # The source of a package, in the folder that is printed.
@@ -101,6 +103,53 @@ test_expat() {
         tests/runtests && xmlwf/xmlwf t.xml && xmlwf/xmlwf -d out t.xml && cat out/t.xml
 }
 
+test_xz_utils() {
+    ./configure --disable-nls --disable-doc --disable-shared --disable-dependency-tracking CC="$CC" CFLAGS="$FLAGS" >log 2>&1 &&
+        make -s -k -j3 >log 2>&1 || { cat log; return 1; }
+    make -s -k -j3 check >log 2>&1 || { cat log; return 1; }
+    grep -E '^(PASS|SKIP|FAIL|# )' log | LC_ALL=C sort
+    cat src/*/*.c >data && src/xz/xz -k -9e data && sha256sum data.xz && src/xz/xz -dc data.xz | cmp - data
+}
+
+# The programs that write SQLite's source are the machine's.
+test_sqlite3() {
+    BUILD_CC=gcc BUILD_CFLAGS=-O1 CC="$CC" CFLAGS="$FLAGS" ./configure --disable-tcl --disable-readline --disable-shared \
+        --disable-load-extension >log 2>&1 && make -s sqlite3.c shell.c >log 2>&1 || { cat log; return 1; }
+    local unit built=0
+    for unit in sqlite3 shell; do
+        $CC $FLAGS -mlong-double-64 -w -I. -DSQLITE_THREADSAFE=0 -DSQLITE_OMIT_LOAD_EXTENSION -DSQLITE_ENABLE_FTS5 \
+            -DSQLITE_ENABLE_RTREE -c $unit.c || built=1
+    done
+    [ $built = 0 ] && $CC $FLAGS -o sqlite3 shell.o sqlite3.o -lm || return 1
+    cat >t.sql <<'Q'
+create table t(a integer primary key, b text, c real);
+with recursive n(i) as (select 1 union all select i + 1 from n where i < 20000)
+    insert into t select i, printf('%06d%s', (i * 7919) % 10007, char(65 + i % 26)), i * 0.37 - i * i / 3.0 from n;
+create index tb on t(b, c);
+select count(*), sum(a), min(b), max(b), printf('%.9g', avg(c)), printf('%.12e', total(c * c)) from t;
+select a, b, row_number() over (partition by a % 7 order by b desc) r from t where a % 501 = 3 order by r, a limit 12;
+select x.a, y.b from t x join t y on y.a = x.a * 3 where x.b > '009' and y.c < 0 order by y.b, x.a limit 5;
+create virtual table f using fts5(words);
+insert into f select group_concat(substr(b, 3, 3), ' ') from t group by a / 50;
+select count(*), sum(rowid) from f where f match '123* OR 77*';
+create virtual table r using rtree(id, x0, x1, y0, y1);
+insert into r select a, a % 100, a % 100 + 2, a / 100, a / 100 + 3 from t;
+select count(*), sum(id) from r where x0 > 20 and x1 < 40 and y0 between 10 and 90;
+create trigger g after delete on t begin insert into f values (old.b); end;
+delete from t where a % 3 = 0;
+select count(*) from f;
+update t set c = round(c, 2) || '', b = upper(hex(b)) where a between 40 and 50;
+select * from t where a between 40 and 50;
+select json_extract('{"a":[1,2.5,{"b":"x\u00e9"}]}', '$.a[2].b'), json_group_array(a) from t where a < 20;
+select date('2024-02-29', '+1 year'), strftime('%s', '1970-01-02 03:04:05'), 7 / 2, -7 % 3, 7.0 / 2, 1e308 * 10, 9223372036854775807 + 1;
+select printf('%!.17g %08.3f %+d %x %s', 0.1, -3.14159, 42, 48879, quote(x'00ff')), like('a%b_', 'AxxBy'), glob('[a-c]*', 'bcd');
+vacuum;
+pragma integrity_check;
+pragma page_count;
+Q
+    ./sqlite3 -batch db <t.sql
+}
+
 test_pugixml() {
     make -s -k -j3 test BUILD=built CXX="${CC/gcc/g++}" CXXFLAGS="$FLAGS -w -std=c++11 -fno-gnu-unique -maccumulate-outgoing-args"
 }
@@ -109,7 +158,7 @@ test_pugixml() {
 run() {
     local package=$1 compiler=$2 flags=$3 out=$4 place
     place=$(fetch "$package") || return 9
-    (cd "$place" && CC=$compiler FLAGS=$flags && export CC FLAGS && "test_${package//./_}") >"$out" 2>&1
+    (cd "$place" && CC=$compiler FLAGS=$flags && export CC FLAGS && "test_${package//[.-]/_}") >"$out" 2>&1
 }
 
 # How a package is refused: how often each message came, and in how many files.
