@@ -18,7 +18,9 @@ use Rattle.att_texts.proofs.FoundSizes.{size_has}
 use Rattle.att_texts.specs.Pieces.{PrintedPiece, is_word, are_apart, text_in, tokens_in}
 use Rattle.att_texts.specs.AttTexts.{may_name, is_or_move, is_insn, read_after, written, insn_text, names_it, mnemonic_for, operands_in, after_blank, insn_pieces}
 use Rattle.att_texts.specs.Printable.{IsWidth, ArePrintable}
-use Rattle.att_texts.specs.TextLaws.{AttTextsSpell, IsChosen}
+use Rattle.att_texts.specs.TextLaws.{AttTextsSpell, IsChosen, PiecesSpell}
+use Rattle.att_texts.proofs.NumberTexts.{number_spelled, place_spelled}
+use Rattle.att_texts.proofs.RegisterTexts.{register_named}
 use Rattle.att_texts.proofs.ApartTexts.{insn_apart}
 use Rattle.att_texts.proofs.Decided.{with_head, headed, decided, passes_if_read}
 use Rattle.att_texts.proofs.InsnTexts.{insn_written, head_spelled}
@@ -121,3 +123,7 @@ chosen_is insn named chosen =
           let fails = first.earlier i other low it in
           cc;
     }
+
+-- what both syntaxes share
+pub pieces_spell : PiecesSpell
+pieces_spell = record { numbers = number_spelled; places = place_spelled; registers = λ of_class number fits. (register_named of_class number fits).names }

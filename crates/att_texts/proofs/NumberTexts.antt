@@ -18,7 +18,7 @@ use Rattle.att_texts.proofs.DigitTexts.{Spells, decimal_spells, decimal_leaf, na
 use Rattle.att_operands.specs.Values.{ValueText}
 use Rattle.att_operands.specs.Spells.{WritesValue, plain}
 use Rattle.att_texts.specs.Pieces.{word, mark, word_kind, made, tokens_in, is_word}
-use Rattle.att_texts.specs.Numbers.{is_positive, number_pieces, number_tree, place_pieces, place_tree}
+use Rattle.att_texts.specs.Numbers.{is_positive, number_pieces, number_tree, place_pieces, place_tree, bare}
 use Rattle.att_texts.specs.Printable.{IsWidth, eight, sixteen, thirty_two, sixty_four}
 
 -- the digits of a number are a word, and a token of digits
@@ -46,10 +46,6 @@ unfolding leaf_of
 number_writes most level n offset fits =
     let is = (decimal_is n fits).kind in
     leaf most level (number n) (made (word_kind (decimal n)) (decimal n) offset) (rw is (decimal_leaf n fits))
-
--- a value without a suffix
-abbrev pub bare : Tree → ValueText
-bare tree = record { tree = tree; suffix = None }
 
 positive_writes : (n offset : ℕ) → n < 2 ^ 64 → WritesValue (bare (number n)) (tokens_in offset (word (decimal n) ∷ []))
 unfolding height

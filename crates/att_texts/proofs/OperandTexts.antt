@@ -28,7 +28,8 @@ use Rattle.att_texts.specs.Pieces.{PrintedPiece, word, mark, blank, word_kind, m
 use Rattle.att_texts.specs.Numbers.{number_tree, place_tree, place_pieces, value_of}
 use Rattle.att_texts.specs.AttOperands.{register_text, register_pieces, segment_pieces, index_pieces, address_pieces, is_left_out, displacement_pieces, displacement_text, place_of, memory_pieces, memory_text, star, operand_pieces}
 use Rattle.att_texts.specs.Printable.{IsWidth, sixty_four, IsNumbered, IsIndexed, IsAddressed, IsPrintable}
-use Rattle.att_texts.proofs.NumberTexts.{bare, number_spelled, place_spelled}
+use Rattle.att_texts.specs.Numbers.{bare}
+use Rattle.att_texts.proofs.NumberTexts.{number_spelled, place_spelled}
 use Rattle.att_texts.proofs.RegisterTexts.{register_named}
 
 -- the offset after pieces

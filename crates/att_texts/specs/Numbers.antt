@@ -4,6 +4,7 @@ use Rattle.std.specs.Fmt.{decimal}
 use Rattle.asm_expr.specs.declared.trees.UnaryOp.TheVariants.{Minus}
 use Rattle.asm_expr.specs.declared.trees.BinaryOp.TheVariants.{Add, Sub}
 use Rattle.asm_expr.specs.Trees.{Tree, number, here, unary, binary}
+use Rattle.att_operands.specs.Values.{ValueText}
 use Rattle.att_texts.specs.Pieces.{PrintedPiece, word, mark}
 
 -- a number below half the range is itself, and others stand for negative ones
@@ -34,3 +35,7 @@ place_tree value =
 abbrev pub value_of : Option ℕ → ℕ
 value_of None = 0
 value_of (Some value) = value
+
+-- a value without a suffix
+abbrev pub bare : Tree → ValueText
+bare tree = record { tree = tree; suffix = None }

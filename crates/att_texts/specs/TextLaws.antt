@@ -1,5 +1,5 @@
 -- What holds of the texts of instructions.
-use Rattle.std.specs.Prelude.{◌≡◌, ℕ, ◌<◌, true, Some, Ok, slice_get}
+use Rattle.std.specs.Prelude.{◌≡◌, ℕ, ◌<◌, ◌^◌, true, Some, Ok, slice_get}
 use Rattle.asm_base.specs.Tokens.{tokens_of}
 use Rattle.x86_insn.specs.Views.{View}
 use Rattle.x86_lookup.specs.declared.names.Named.{Named}
@@ -7,9 +7,15 @@ use Rattle.x86_lookup.specs.Names.{the_att_names}
 use Rattle.att_insns.specs.InsnTexts.{InsnText}
 use Rattle.att_insns.specs.Rules.{is_branch}
 use Rattle.att_insns.specs.Spells.{Spells}
-use Rattle.att_texts.specs.Pieces.{text_in}
+use Rattle.x86_insn.specs.declared.registers.Class.{Class}
+use Rattle.att_operands.specs.declared.registers.NamedRegister.TheVariants as named
+use Rattle.att_operands.specs.Registers.{register_of}
+use Rattle.att_operands.specs.Spells.{WritesValue}
+use Rattle.att_texts.specs.Pieces.{text_in, tokens_in}
+use Rattle.att_texts.specs.Numbers.{bare, number_pieces, number_tree, place_pieces, place_tree}
+use Rattle.att_texts.specs.AttOperands.{register_text}
 use Rattle.att_texts.specs.AttTexts.{insn_text, insn_pieces, may_name, read_after, mnemonic_for}
-use Rattle.att_texts.specs.Printable.{IsWidth, ArePrintable}
+use Rattle.att_texts.specs.Printable.{IsWidth, IsNumbered, ArePrintable}
 
 -- what is written for an instruction spells it
 abbrev pub AttTextsSpell : Type 0
@@ -22,3 +28,9 @@ pub record IsChosen (insn : InsnText) (named : Named) : Type 0 where
   pub stands : slice_get the_att_names at ≡ Some named
   pub reads : read_after insn named ≡ Ok insn
   pub earlier : (i : ℕ) (other : Named) → i < at → slice_get the_att_names i ≡ Some other → may_name insn.name.0 other ≡ true → read_after insn other ≡ Ok insn → ⊥
+
+-- numbers, places and registers, in either syntax
+pub record PiecesSpell : Type 0 where
+  pub numbers : (bits value offset : ℕ) → IsWidth bits → value < 2 ^ 64 → WritesValue (bare (number_tree bits value)) (tokens_in offset (number_pieces bits value))
+  pub places : (value offset : ℕ) → value < 2 ^ 64 → WritesValue (bare (place_tree value)) (tokens_in offset (place_pieces value))
+  pub registers : (of_class : Class) (number : ℕ) → IsNumbered of_class number → register_of (register_text of_class number) ≡ Some (named.Plain (record { class = of_class; number = number }))

@@ -7,7 +7,7 @@ ghost use Rattle.att_texts.specs.Completeness.{has_mnemonic};
 ghost use Rattle.x86_lookup.specs.declared.names.Named.{Named};
 ghost use Rattle.att_insns.specs.InsnTexts.{InsnText};
 ghost use Rattle.att_texts.specs.AttTexts.{mnemonic_for};
-ghost use Rattle.att_texts.specs.TextLaws.{AttTextsSpell, IsChosen};
+ghost use Rattle.att_texts.specs.TextLaws.{AttTextsSpell, IsChosen, PiecesSpell};
 ghost use Rattle.asm_base.specs.Tokens.{tokens_of};
 ghost use Rattle.att_texts.specs.Worked.{WorkedAtt};
 ghost use Rattle.att_texts.specs.Pieces.{PrintedPiece, are_apart, text_in, tokens_in};
@@ -47,4 +47,10 @@ pub fn suffixes_are_needed()
 #[tactic(auto, using(crate::proofs::MnemonicFacts::all_have_mnemonics))]
 pub fn rows_have_mnemonics()
     ensures { IsTrue (list_all has_mnemonic the_rows) }
+{}
+
+/// The pieces of a number spell it, and those of a place; a register's name names it.
+#[tactic(auto, using(crate::proofs::AttLaws::pieces_spell))]
+pub fn pieces_spell()
+    ensures { PiecesSpell }
 {}
