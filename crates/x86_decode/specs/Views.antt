@@ -1,8 +1,10 @@
 -- What the program holds, as the definitions have it.
-use Rattle.std.specs.Prelude.{◌≡◌, ℕ, List, Some, true, length}
+use Rattle.std.specs.Prelude.{◌≡◌, ℕ, List, Some, true, length, slice_get}
 use Rattle.x86_table.specs.declared.forms.Map.{Map}
 use Rattle.x86_table.specs.declared.forms.Row.{Row}
+use Rattle.x86_table.specs.Rows.{the_rows}
 use Rattle.x86_table.specs.Bytes.{bytes_of}
+use Rattle.x86_table.specs.Fits.{fits}
 use Rattle.x86_table.specs.Reads.{meaning, is_known, is_known_place}
 use Rattle.x86_table.specs.Fields.{Fields, located, fields_of}
 use Rattle.x86_decode.specs.declared.heads.Head.{Head as Held}
@@ -42,9 +44,11 @@ pub record IsKnown (p : Fields) : Type 0 where
   pub held : is_known p.held ≡ true
   pub place : is_known_place p.place ≡ true
 
--- it is of a row of the table, has as many bytes as the row and its fields, and its numbers stand
+-- it is of the row of the table that has its number, and of fields that fit it; it has as many bytes as these, and its numbers are known
 pub record IsOfRow (held : HeldFront) : Type 0 where
   pub there : IsInTable held.row.now
+  pub numbered : slice_get the_rows held.number ≡ Some held.row.now
+  pub fit : fits held.row.now (fields_of held.parts) ≡ true
   pub counted : held.len ≡ length (bytes_of held.row.now (fields_of held.parts))
   pub known : IsKnown (fields_of held.parts)
 

@@ -1,6 +1,6 @@
 //! The row and the fields of the instruction that bytes begin with.
 
-ghost use Rattle.std.specs.Prelude.{◌≡◌, IfSome, option_map, take, true};
+ghost use Rattle.std.specs.Prelude.{◌≡◌, IfSome, Some, option_map, slice_get, take, true};
 ghost use Rattle.x86_table.specs.Fields.{fields_of};
 ghost use Rattle.x86_table.specs.Rows.{the_rows};
 ghost use Rattle.x86_decode.specs.Admitting.{admits};
@@ -15,12 +15,14 @@ use crate::field_readings::parts_in;
 use crate::fitting::parts_fit;
 use crate::heads::{Head, behind, head_of, map_in};
 use crate::laws::all_is_decoded;
-use crate::rows::{first_of, opcode_rows};
+use crate::rows::{TableRow, first_of, opcode_rows};
 use x86_table::{Map, Parts, Row, bytes_of, fields_have_bytes, heads_tell_rows};
 
 /// What bytes begin with: a row, its fields, and how many bytes these have.
 #[derive(Clone, Copy)]
 pub struct Front {
+    /// The number of the row in the table.
+    pub number: u16,
     pub row: &'static Row,
     pub parts: Parts,
     pub len: usize,
@@ -51,19 +53,26 @@ fn at_most(bytes: &[u8], count: usize) -> &[u8]
 
 /// The instruction of the row and the parts, if these fit and the bytes begin with theirs.
 #[tactic(auto, unfolding(x86_table::specs::Fits::fits))]
-fn shown_if(bytes: &[u8], row: &'static Row, parts: Parts) -> Option<Front>
-    requires there { IsInTable row.now }
+fn shown_if(bytes: &[u8], found: TableRow, parts: Parts) -> Option<Front>
+    requires numbered { slice_get the_rows found.number ≡ Some found.row.now }
+    requires there { IsInTable found.row.now }
     requires known { IsKnown (fields_of parts) }
-    requires read { AreRead row.now (fields_of parts) }
-    ensures front { option_map shown_front result ≡ spec.shown_if bytes.now row.now (fields_of parts) }
+    requires read { AreRead found.row.now (fields_of parts) }
+    ensures front { option_map shown_front result ≡ spec.shown_if bytes.now found.row.now (fields_of parts) }
     ensures of_row { IfSome result (λ front. IsOfRow front) }
 {
     fields_have_bytes();
+    let TableRow { number, row } = found;
     if parts_fit(row, &parts) {
         let own = bytes_of(row, &parts);
         let len = own.len();
         if len <= 15 && own.as_slice() == at_most(bytes, len) {
-            Some(Front { row, parts, len })
+            Some(Front {
+                number,
+                row,
+                parts,
+                len,
+            })
         } else {
             None
         }
@@ -73,10 +82,11 @@ fn shown_if(bytes: &[u8], row: &'static Row, parts: Parts) -> Option<Front>
 }
 
 /// The row that admits the head.
-fn row_of(map: Map, head: &Head, opcode: u8, tail: &[u8]) -> Option<&'static Row>
+fn row_of(map: Map, head: &Head, opcode: u8, tail: &[u8]) -> Option<TableRow>
     ensures row { let test = admits map (shown_head head.now) opcode tail.now in
-        option_map (λ row. row.now) result ≡ spec.first_row test the_rows }
-    ensures admitted { IfSome result (λ row. IsAdmitted map (shown_head head.now) opcode tail.now row.now) }
+        option_map (λ found. found.row.now) result ≡ spec.first_row test the_rows }
+    ensures admitted { IfSome result (λ found. IsAdmitted map (shown_head head.now) opcode tail.now found.row.now) }
+    ensures numbered { IfSome result (λ found. slice_get the_rows found.number ≡ Some found.row.now) }
 {
     heads_tell_rows();
     first_of(map, head, opcode, tail, opcode_rows(map, opcode))
@@ -89,15 +99,17 @@ fn front_by(
     head: &Head,
     opcode: u8,
     tail: &[u8],
-    row: &'static Row,
+    found: TableRow,
 ) -> Option<Front>
-    requires { IsAdmitted map (shown_head head.now) opcode tail.now row.now }
-    ensures front { let fields = fields_in row.now (shown_head head.now) opcode tail.now in
-        option_map shown_front result ≡ spec.shown_if bytes.now row.now fields }
+    requires admitted { IsAdmitted map (shown_head head.now) opcode tail.now found.row.now }
+    requires numbered { slice_get the_rows found.number ≡ Some found.row.now }
+    ensures front { let fields = fields_in found.row.now (shown_head head.now) opcode tail.now in
+        option_map shown_front result ≡ spec.shown_if bytes.now found.row.now fields }
     ensures of_row { IfSome result (λ front. IsOfRow front) }
 {
+    let row = found.row;
     let above = opcode.saturating_sub(row.code);
-    shown_if(bytes, row, parts_in(row, head, above, tail))
+    shown_if(bytes, found, parts_in(row, head, above, tail))
 }
 
 /// The instruction by the bytes from the opcode on.
@@ -109,7 +121,7 @@ fn front_behind(map: Map, bytes: &[u8], head: &Head, rest: &[u8]) -> Option<Fron
         [] => None,
         [opcode, tail @ ..] => match row_of(map, head, *opcode, tail) {
             None => None,
-            Some(row) => front_by(map, bytes, head, *opcode, tail, row),
+            Some(found) => front_by(map, bytes, head, *opcode, tail, found),
         },
     }
 }

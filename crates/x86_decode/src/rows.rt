@@ -12,6 +12,13 @@ use crate::slots::{OPCODE_ROWS, STARTS};
 use x86_lookup::rows;
 use x86_table::{Map, Row};
 
+/// A row of the table, and its number there.
+#[derive(Clone, Copy)]
+pub(crate) struct TableRow {
+    pub(crate) number: u16,
+    pub(crate) row: &'static Row,
+}
+
 /// Where the rows of each opcode begin.
 #[tactic(auto, unfolding(crate::specs::Slots::the_starts))]
 fn starts() -> &'static [u16]
@@ -74,14 +81,15 @@ pub(crate) fn opcode_rows(map: Map, opcode: u8) -> &'static [u16]
 }
 
 /// The row of this index, if it admits the head.
-fn admitted(map: Map, head: &Head, opcode: u8, tail: &[u8], number: u16) -> Option<&'static Row>
-    ensures { option_map (λ row. row.now) result
+fn admitted(map: Map, head: &Head, opcode: u8, tail: &[u8], number: u16) -> Option<TableRow>
+    ensures row { option_map (λ found. found.row.now) result
         ≡ spec.only (admits map (shown_head head.now) opcode tail.now) (slice_get the_rows number) }
+    ensures numbered { IfSome result (λ found. slice_get the_rows found.number ≡ Some found.row.now) }
 {
     match rows().get(usize::from(number)) {
         Some(row) => {
             if admits(map, head, opcode, tail, row) {
-                Some(row)
+                Some(TableRow { number, row })
             } else {
                 None
             }
@@ -98,14 +106,15 @@ pub(crate) fn first_of(
     opcode: u8,
     tail: &[u8],
     numbers: &[u16],
-) -> Option<&'static Row>
-    ensures { option_map (λ row. row.now) result
+) -> Option<TableRow>
+    ensures row { option_map (λ found. found.row.now) result
         ≡ spec.first_number (admits map (shown_head head.now) opcode tail.now) numbers.now }
+    ensures numbered { IfSome result (λ found. slice_get the_rows found.number ≡ Some found.row.now) }
 {
     match numbers.split_first() {
         None => None,
         Some((number, others)) => match admitted(map, head, opcode, tail, *number) {
-            Some(row) => Some(row),
+            Some(found) => Some(found),
             None => first_of(map, head, opcode, tail, others),
         },
     }

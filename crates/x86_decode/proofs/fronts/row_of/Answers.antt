@@ -7,7 +7,7 @@ use Rattle.x86_decode.proofs.RowsTaken.{taken}
 use Rattle.x86_decode.proofs.fronts.row_of.Goals as goal
 
 pub returns-clause-row : goal.returns-clause-row
-returns-clause-row c = c.first_of.ensures ∙ ap (first_number (admits c.args.map (shown_head c.args.head.now) c.args.opcode c.args.tail.now)) c.opcode_rows.ensures
+returns-clause-row c = c.first_of.ensures.row ∙ ap (first_number (admits c.args.map (shown_head c.args.head.now) c.args.opcode c.args.tail.now)) c.opcode_rows.ensures
     ∙ slot_row c.heads_tell_rows.ensures c.args.map (shown_head c.args.head.now) c.args.opcode c.args.tail.now
 
 pub returns-clause-admitted : goal.returns-clause-admitted
