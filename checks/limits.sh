@@ -77,6 +77,15 @@ expect() {
     if [ "$status" -eq "$2" ]; then echo "ok   $1"; else echo "FAIL $1: status $status, not $2"; failed=1; fi
 }
 
+# As many sections as a source makes, with tables, whose sections do not count; and one more.
+printf '.cfi_startproc\nnop\n.cfi_endproc\n.file 1 "a.c"\n.loc 1 1\nnop\n.macro m\n.section s\\@\n.endm\n.rept 30000\nm\n.endr\n' >tables.s
+expect '30,000 sections, a frame table and a line table' 0 tables.s
+for table in .eh_frame .debug_line; do
+    readelf -SW made.o | grep -q " $table " || { echo "FAIL no $table"; failed=1; }
+done
+{ cat tables.s; echo '.section more'; } >sections.s
+expect 'a section more' 1 sections.s
+
 if [ "${2:-}" = --large ]; then
     names=$(seq -f 'n%.0f_\@' -s , 256)
     printf '.macro m\n.globl %s\n.endm\n.rept 65536\nm\n.endr\n' "$names" >symbols.s
