@@ -11,3 +11,4 @@ pub mod Decided
 pub mod ApartTexts
 pub mod AttLaws
 pub mod MnemonicFacts
+pub mod FittingFields

@@ -1,5 +1,5 @@
 -- Which operands have texts: those of an instruction that bytes read as.
-use Rattle.std.specs.Prelude.{◌≡◌, ℕ, ◌<◌, ◌≤◌, ◌^◌, Bool, true}
+use Rattle.std.specs.Prelude.{◌≡◌, ℕ, ◌<◌, ◌≤◌, ◌^◌, ◌&&◌, not, Bool, true, false}
 use Rattle.x86_insn.specs.declared.registers.Class.{Class}
 use Rattle.x86_insn.specs.declared.registers.Class.TheVariants as class
 use Rattle.x86_insn.specs.declared.insns.Base.{Base}
@@ -7,6 +7,9 @@ use Rattle.x86_insn.specs.declared.insns.Base.TheVariants as base
 use Rattle.x86_insn.specs.declared.insns.Index.{Index}
 use Rattle.x86_insn.specs.declared.insns.Index.TheVariants as index
 use Rattle.x86_insn.specs.Views.{Seen, absent, register, immediate, memory, target, View}
+use Rattle.x86_table.specs.declared.forms.Pattern.{Pattern}
+use Rattle.x86_table.specs.declared.forms.Pattern.TheVariants as pattern
+use Rattle.x86_table.specs.declared.forms.Row.{Row}
 use Rattle.att_texts.specs.Numbers.{value_of}
 
 -- a width of immediates
@@ -50,3 +53,32 @@ pub record ArePrintable (branch : Bool) (insn : View) : Type 0 where
   pub first : IsPrintable branch insn.first
   pub second : IsPrintable branch insn.second
   pub third : IsPrintable branch insn.third
+
+-- the class is that of ah to bh
+abbrev pub is_high : Class → Bool
+is_high class.Byte = false
+is_high class.High = true
+is_high class.Word = false
+is_high class.Long = false
+is_high class.Quad = false
+is_high class.Xmm = false
+
+-- the operand of a row is no register of that class by itself
+abbrev pub is_low : Pattern → Bool
+is_low pattern.Absent = true
+is_low (pattern.RegMem c n) = not (is_high c)
+is_low (pattern.Reg c) = not (is_high c)
+is_low (pattern.Low c) = not (is_high c)
+is_low (pattern.Accumulator c) = not (is_high c)
+is_low pattern.Cl = true
+is_low pattern.One = true
+is_low pattern.Immediate = true
+is_low pattern.Target = true
+
+-- so it is with all operands of a row
+abbrev pub has_low : Row → Bool
+has_low r = is_low r.first && (is_low r.second && is_low r.third)
+
+-- the operand of a row is a branch target
+abbrev pub IsTargetOf : Pattern → Type 0
+IsTargetOf q = q ≡ pattern.Target

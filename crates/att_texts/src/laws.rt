@@ -4,10 +4,11 @@ ghost use Rattle.std.specs.Prelude.{◌≡◌, IsTrue, List, Some, true};
 ghost use Rattle.std.specs.List.{list_all};
 ghost use Rattle.x86_table.specs.Rows.{the_rows};
 ghost use Rattle.att_texts.specs.Completeness.{has_mnemonic};
+ghost use Rattle.att_texts.specs.Printable.{has_low};
 ghost use Rattle.x86_lookup.specs.declared.names.Named.{Named};
 ghost use Rattle.att_insns.specs.InsnTexts.{InsnText};
 ghost use Rattle.att_texts.specs.AttTexts.{mnemonic_for};
-ghost use Rattle.att_texts.specs.TextLaws.{AttTextsSpell, IsChosen, PiecesSpell};
+ghost use Rattle.att_texts.specs.TextLaws.{AttTextsSpell, FieldsPrint, InstructionsPrint, IsChosen, PiecesSpell};
 ghost use Rattle.asm_base.specs.Tokens.{tokens_of};
 ghost use Rattle.att_texts.specs.Worked.{WorkedAtt};
 ghost use Rattle.att_texts.specs.Pieces.{PrintedPiece, are_apart, text_in, tokens_in};
@@ -53,4 +54,13 @@ pub fn rows_have_mnemonics()
 #[tactic(auto, using(crate::proofs::AttLaws::pieces_spell))]
 pub fn pieces_spell()
     ensures { PiecesSpell }
+{}
+
+/// What a row shows of fields that fit it can be printed: its registers have names, an index is not rsp, and its
+/// numbers have 64 bits. No row has ah to bh by itself.
+#[tactic(auto, using(crate::proofs::FittingFields::fields_print, crate::proofs::FittingFields::instructions_print, crate::proofs::FittingFields::rows_low))]
+pub fn fitting_fields_print()
+    ensures operands { FieldsPrint }
+    ensures instructions { InstructionsPrint }
+    ensures rows { IsTrue (list_all has_low the_rows) }
 {}
