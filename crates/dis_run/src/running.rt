@@ -2,6 +2,7 @@
 
 ghost use Rattle.std.specs.Prelude.{◌≡◌, ◌≤◌, ◌⊎◌, None, Some, IfOk, map, string_bytes};
 ghost use Rattle.asm_base.specs.Counts.{HasRisen, IsQuiet};
+ghost use Rattle.std.specs.Io.KnownBytes.{IsAtEnd};
 ghost use Rattle.asm_base.specs.History.{HappensInFront, whole_file};
 ghost use Rattle.std.specs.Prelude.{ℕ, List};
 ghost use Rattle.x86_decode.specs.declared.fronts.Front.{Front};
@@ -53,6 +54,7 @@ fn refuse<C: Console>(alloc: Global, name: &str, con: &mut C) -> Status
     ensures quiet { (result ≡ Status.WriteFault) ⊎ (C.faults con.new ≡ C.faults con.old) }
     ensures count { C.faults con.old ≤ C.faults con.new }
     ensures complete { (result ≡ Status.WriteFault) ⊎ Completes (refused (too_large_text name.now)) result }
+    ensures never_done { result ≡ Status.Done → ⊥ }
 {
     match too_large_text(alloc, name) {
         Ok(text) => match say_all(con, Channel::Err, text.as_slice()) {
@@ -123,6 +125,9 @@ fn list_file<A: Texts, B: Texts, I: Inputs, C: Console>(
     ensures input_count { I.faults ins.old ≤ I.faults ins.new }
     ensures console_count { C.faults con.old ≤ C.faults con.new }
     ensures command { result ≡ Status.Usage → ⊥ }
+    ensures missing_quiet { (result ≡ Status.ReadFault) ⊎ (I.missing ins.new ≡ I.missing ins.old) }
+    ensures taken { I.taken ins.old ≤ I.taken ins.new }
+    ensures whole { result ≡ Status.Done → IsAtEnd (I.rest ins.new) }
     ensures contents { I.contents ins.new ≡ I.contents ins.old }
     ensures starts { HappensInFront (whole_file invocation.entry.file.now)
         (I.history ins.old) (I.history ins.new) }
@@ -170,6 +175,9 @@ pub fn run_with<A: Texts, B: Texts, I: Inputs, C: Console>(
     ensures console_count { C.faults con.old ≤ C.faults con.new }
 
     // What is read.
+    ensures missing_quiet { (result ≡ Status.ReadFault) ⊎ (I.missing ins.new ≡ I.missing ins.old) }
+    ensures taken { I.taken ins.old ≤ I.taken ins.new }
+    ensures whole { result ≡ Status.Done → IsAtEnd (I.rest ins.new) }
     ensures contents { I.contents ins.new ≡ I.contents ins.old }
     ensures starts { StartsFile (command_of (map string_bytes words.now.items))
         (I.history ins.old) (I.history ins.new) }
