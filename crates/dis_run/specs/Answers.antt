@@ -85,6 +85,16 @@ Completes missing status = status ≡ NoMemory
 Completes (refused message) status = (status ≡ SourceFault) ⊎ (status ≡ NoMemory)
 Completes (listed flag bytes) status = (status ≡ Done) ⊎ (status ≡ NoMemory)
 
+-- the count of starts of what has no contents rises at most for the file of the command
+abbrev pub CountsMissingFile : Option Invocation → Option Contents → ℕ → ℕ → Type 0
+CountsMissingFile None contents before now = now ≡ before
+CountsMissingFile (Some invocation) contents before now = (now ≡ before) ⊎ CountsMissing contents invocation.file before now
+
+-- the file of the command was started and read to its end, and nothing else was
+abbrev pub ReadsWhole : Option Invocation → Option (List FileEvent) → Option (List FileEvent) → Type 0
+ReadsWhole None before now = ⊥
+ReadsWhole (Some invocation) before now = now ≡ happened before (whole_file invocation.file)
+
 -- no file but that of the command was started
 abbrev pub StartsFile : Option Invocation → Option (List FileEvent) → Option (List FileEvent) → Type 0
 StartsFile None before now = now ≡ before

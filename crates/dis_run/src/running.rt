@@ -3,13 +3,14 @@
 ghost use Rattle.std.specs.Prelude.{◌≡◌, ◌≤◌, ◌⊎◌, None, Some, IfOk, map, string_bytes};
 ghost use Rattle.asm_base.specs.Counts.{HasRisen, IsQuiet};
 ghost use Rattle.std.specs.Io.KnownBytes.{IsAtEnd};
-ghost use Rattle.asm_base.specs.History.{HappensInFront, whole_file};
+ghost use Rattle.asm_base.specs.History.{HappensInFront, happened, whole_file};
+ghost use Rattle.asm_base.specs.Inputs.{CountsMissing};
 ghost use Rattle.std.specs.Prelude.{ℕ, List};
 ghost use Rattle.x86_decode.specs.declared.fronts.Front.{Front};
 ghost use Rattle.dis_words.specs.Invoked.{invoked};
 ghost use Rattle.dis_words.specs.Words.{command_of};
 ghost use Rattle.dis_run.specs.Outcome.{CommandHolds, refused, shown_name, too_large_text};
-ghost use Rattle.dis_run.specs.Answers.{Answers, Completes, IsListed, StartsFile, TakesTooMuch, text_for};
+ghost use Rattle.dis_run.specs.Answers.{Answers, Completes, CountsMissingFile, IsListed, ReadsWhole, StartsFile, TakesTooMuch, text_for};
 
 use crate::listing::{ListingFault, say_listing};
 use crate::saying::say_all;
@@ -128,6 +129,10 @@ fn list_file<A: Texts, B: Texts, I: Inputs, C: Console>(
     ensures missing_quiet { (result ≡ Status.ReadFault) ⊎ (I.missing ins.new ≡ I.missing ins.old) }
     ensures taken { I.taken ins.old ≤ I.taken ins.new }
     ensures whole { result ≡ Status.Done → IsAtEnd (I.rest ins.new) }
+    ensures missing { (I.missing ins.new ≡ I.missing ins.old)
+        ⊎ CountsMissing (I.contents ins.old) invocation.entry.file.now (I.missing ins.old) (I.missing ins.new) }
+    ensures reads { result ≡ Status.Done → I.history ins.new
+        ≡ happened (I.history ins.old) (whole_file invocation.entry.file.now) }
     ensures contents { I.contents ins.new ≡ I.contents ins.old }
     ensures starts { HappensInFront (whole_file invocation.entry.file.now)
         (I.history ins.old) (I.history ins.new) }
@@ -178,6 +183,10 @@ pub fn run_with<A: Texts, B: Texts, I: Inputs, C: Console>(
     ensures missing_quiet { (result ≡ Status.ReadFault) ⊎ (I.missing ins.new ≡ I.missing ins.old) }
     ensures taken { I.taken ins.old ≤ I.taken ins.new }
     ensures whole { result ≡ Status.Done → IsAtEnd (I.rest ins.new) }
+    ensures missing { CountsMissingFile (command_of (map string_bytes words.now.items))
+        (I.contents ins.old) (I.missing ins.old) (I.missing ins.new) }
+    ensures reads { result ≡ Status.Done → ReadsWhole (command_of (map string_bytes words.now.items))
+        (I.history ins.old) (I.history ins.new) }
     ensures contents { I.contents ins.new ≡ I.contents ins.old }
     ensures starts { StartsFile (command_of (map string_bytes words.now.items))
         (I.history ins.old) (I.history ins.new) }
